@@ -3,3 +3,4 @@ pub mod Sizes
 pub mod Refusals
 pub mod Model
 pub mod Image
+pub mod Runs

@@ -6,6 +6,7 @@ ghost use Rattle.memory.specs.Model.{Mem, Whole, read, claim, write, written};
 mod checks;
 mod image;
 mod refusal;
+mod runs;
 mod sizes;
 
 pub use image::Image;
@@ -15,6 +16,10 @@ pub use refusal::RefusalDebug;
 pub use refusal::RefusalDisplay;
 pub use refusal::RefusalEq;
 pub use refusal::RefusalPartialEq;
+pub use runs::ByteWrite;
+pub use runs::fetch;
+pub use runs::store;
+pub use runs::write_each;
 pub use sizes::ARRAY_PLACES;
 pub use sizes::FEWEST_WORDS;
 pub use sizes::MOST_ERASURES;
