@@ -3,4 +3,5 @@ pub mod Sizes
 pub mod Refusals
 pub mod Model
 pub mod Image
+pub mod Journal
 pub mod Runs

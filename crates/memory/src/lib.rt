@@ -5,12 +5,16 @@ ghost use Rattle.memory.specs.Model.{Mem, Whole, read, claim, write, written};
 
 mod checks;
 mod image;
+mod journal;
 mod refusal;
 mod runs;
 mod sizes;
+mod words;
 
 pub use image::Image;
 pub use image::ImageMemory;
+pub use journal::Journal;
+pub use journal::JournalMemory;
 pub use refusal::Refusal;
 pub use refusal::RefusalDebug;
 pub use refusal::RefusalDisplay;
