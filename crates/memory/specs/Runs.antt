@@ -2,7 +2,7 @@
 use mathlib.Core.Path.{_≡_, refl}
 use mathlib.Core.Bool.{Bool, cond}
 use mathlib.Core.List.{List, [], _∷_, _++_}
-use Prim.Native.Nat.{ℕ, _+_, _-_}
+use Prim.Native.Nat.{ℕ, _+_, _-_, min}
 use lib.Dec.{leb, ltb}
 use lib.ListN.{length, take, drop}
 use Rattle.std.specs.declared.result.Result.{Result}
@@ -14,6 +14,10 @@ use Rattle.memory.specs.declared.runs.ByteWrite.{ByteWrite}
 use Rattle.memory.specs.Sizes.{places}
 use Rattle.memory.specs.Refusals.{refused, refused-with}
 use Rattle.memory.specs.Model.{Mem, write, written}
+
+-- The life left, up to the largest number of 32 bits. An unfit memory refuses it by 3.
+abbrev pub life-answer : Mem → Result ℕ Refusal
+life-answer m = cond (m .fit) (Ok (min (m .life) 0xFFFF_FFFF)) (refused 3 Unfit refl refl)
 
 -- Fetch of n bytes from a place on is refused by 3 if the memory is unfit, then by 4 if the run leaves the places.
 abbrev pub fetch : Bool → ℕ → ℕ → Result Unit Refusal

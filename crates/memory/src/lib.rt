@@ -22,6 +22,7 @@ pub use refusal::RefusalEq;
 pub use refusal::RefusalPartialEq;
 pub use runs::ByteWrite;
 pub use runs::fetch;
+pub use runs::life_left;
 pub use runs::store;
 pub use runs::write_each;
 pub use sizes::ARRAY_PLACES;
@@ -31,6 +32,8 @@ pub use sizes::MOST_WORDS;
 pub use sizes::MOST_WRITES;
 pub use sizes::PLACES;
 pub use sizes::is_place;
+pub use words::factory_byte;
+pub use words::factory_bytes;
 
 /// A memory: places with one byte each, and a life, the byte writes that it will still take.
 pub trait Memory {

@@ -7,7 +7,7 @@ ghost use Rattle.std.specs.Results.{isOk};
 ghost use Rattle.std.specs.declared.result.Result.the-variants.{Ok};
 ghost use Rattle.memory.specs.Model.{Whole};
 ghost use Rattle.memory.specs.Sizes.{places};
-ghost use Rattle.memory.specs.Runs.{fetch, run-at, store, stored, with-run, after, made};
+ghost use Rattle.memory.specs.Runs.{life-answer, fetch, run-at, store, stored, with-run, after, made};
 use crate::Memory;
 use crate::refusal::Refusal;
 use crate::sizes::PLACES;
@@ -23,6 +23,17 @@ fn check_run(fit: bool, place: usize, n: usize) -> Result<(), Refusal>
         return Err(Refusal::Place);
     }
     Ok(())
+}
+
+/// The life, as far as a number of 32 bits tells it: a claim above it is refused with the life left.
+pub fn life_left<M: Memory>(memory: &M) -> Result<u32, Refusal>
+    ensures { λ r. ⌜ r ≡ life-answer (holds (now (memory .entry))) ⌝ }
+{
+    match memory.claim(u32::MAX) {
+        Ok(()) => Ok(u32::MAX),
+        Err(Refusal::Short { life }) => Ok(life),
+        Err(refusal) => Err(refusal),
+    }
 }
 
 /// Writes a run of bytes that the memory has room and life for.

@@ -54,7 +54,7 @@ fn is_record(word: u32) -> bool
 }
 
 /// The byte of a place that has no record.
-pub(crate) fn factory_byte(place: usize) -> u8
+pub fn factory_byte(place: usize) -> u8
     ensures { λ r. ⌜ r ≡ factory place ⌝ }
 {
     if place < ARRAY_PLACES {
@@ -111,7 +111,7 @@ pub(crate) fn latest_byte(words: &[u32], used: usize, place: usize) -> u8
 }
 
 /// The bytes of places that have no record.
-fn factory_bytes() -> [u8; PLACES]
+pub fn factory_bytes() -> [u8; PLACES]
     ensures { λ r. ⌜ r ≡ bytes-of [] ⌝ }
 {
     let mut bytes = [0; PLACES];

@@ -1,0 +1,2 @@
+-- Lemmas that the proofs of the functions cite.
+pub mod BookLaws
