@@ -1,26 +1,22 @@
 -- What is left where a weighing is entered.
 use mathlib.Core.Path.{_≡_, ap, sym, _∙_}
-use mathlib.Core.Bool.{true, cond}
 use mathlib.Core.List.{List}
 use Prim.Native.Nat.{ℕ, _<_}
 use lib.Dec.{ltb}
 use lib.ListN.{length}
-use Rattle.std.specs.declared.result.Result.{Result}
 use Rattle.std.specs.declared.result.Result.the-variants.{Ok}
 use Rattle.std.specs.Results.{isOk}
 use Rattle.std.proofs.shelf.Tests.{cond-true, lt-ltb}
-use Rattle.memory.specs.declared.refusal.Refusal.{Refusal}
 use Rattle.memory.specs.Model.{Mem}
 use Rattle.memory.specs.Runs.{store, stored, with-run}
-use Rattle.ledger.specs.declared.error.LedgerError.{LedgerError}
 use Rattle.ledger.specs.declared.records.Weighing.{Weighing}
 use Rattle.ledger.specs.Layout.{truck-count, weighing-place}
 use Rattle.ledger.specs.Records.{weighing-bytes}
 use Rattle.ledger.specs.Book.{from-memory, and-then, free-answer, weigh-answer, weigh-after}
 
 module _ (m : Mem) (ticket place : ℕ) (w : Weighing) (bs : List ℕ)
-  (low : w .truck < truck-count) (free : Ok tt ≡ free-answer m ticket) (at : place ≡ weighing-place ticket) (are : bs ≡ weighing-bytes w)
-  (kept : Ok tt ≡ store m place (length bs)) where
+    (low : w .truck < truck-count) (free : Ok tt ≡ free-answer m ticket) (at : place ≡ weighing-place ticket) (are : bs ≡ weighing-bytes w)
+    (kept : Ok tt ≡ store m place (length bs)) where
   pub weigh-passed : Ok tt ≡ weigh-answer m ticket (w .truck)
   weigh-passed =
       ap from-memory (kept ∙ (λ i. store m (at i) (length (are i))))

@@ -1,9 +1,8 @@
 -- What each call of the ledger answers and leaves, over any memory.
-use mathlib.Core.Bool.{Bool, cond}
+use mathlib.Core.Bool.{cond}
 use Prim.Native.Nat.{ℕ, _-_}
 use lib.Dec.{ltb}
 use Rattle.std.specs.declared.option.Option.{Option}
-use Rattle.std.specs.declared.option.Option.the-variants.{Some, None}
 use Rattle.std.specs.declared.result.Result.{Result}
 use Rattle.std.specs.declared.result.Result.the-variants.{Ok, Err}
 use Rattle.std.specs.Options.{isSome, okOr}
@@ -32,14 +31,14 @@ and-then (Err e) f = Err e
 -- The tare of a truck: there must be such a truck, and it must have a tare.
 abbrev pub tare-answer : Mem → ℕ → Result Tare LedgerError
 tare-answer m truck =
-  cond (ltb truck truck-count)
+    cond (ltb truck truck-count)
     (and-then (from-memory (fetch (m .fit) (tare-place truck) tare-size)) (λ _. okOr (tare-of (run-at m (tare-place truck) tare-size)) NoTare))
     (Err NoTruck)
 
 -- The weighing that a ticket holds, if it holds one that is not yet billed.
 abbrev pub weighing-answer : Mem → ℕ → Result (Option Weighing) LedgerError
 weighing-answer m ticket =
-  cond (ltb ticket ticket-count)
+    cond (ltb ticket ticket-count)
     (and-then (from-memory (fetch (m .fit) (weighing-place ticket) weighing-size)) (λ _. Ok (weighing-of (run-at m (weighing-place ticket) weighing-size))))
     (Err NoTicket)
 
@@ -57,7 +56,7 @@ free-answer m ticket = and-then (weighing-answer m ticket) (λ held. cond (isSom
 -- A weighing of a truck is entered on a free ticket.
 abbrev pub weigh-answer : Mem → ℕ → ℕ → Result Unit LedgerError
 weigh-answer m ticket truck =
-  cond (ltb truck truck-count)
+    cond (ltb truck truck-count)
     (and-then (free-answer m ticket) (λ _. from-memory (store m (weighing-place ticket) weighing-size)))
     (Err NoTruck)
 
@@ -71,10 +70,10 @@ invoice w t = record { truck = w .truck; gross = w .gross; tare = t .weight; net
 -- What is billed: the weighing of the ticket, by the tare of its truck, where the truck is not lighter than that.
 abbrev pub due : Mem → ℕ → Result Invoice LedgerError
 due m ticket =
-  and-then (weighing-answer m ticket) (λ held.
-  and-then (okOr held NotOpen) (λ w.
-  and-then (tare-answer m (w .truck)) (λ t.
-  cond (ltb (w .gross) (t .weight)) (Err Light) (Ok (invoice w t)))))
+    and-then (weighing-answer m ticket) (λ held.
+    and-then (okOr held NotOpen) (λ w.
+    and-then (tare-answer m (w .truck)) (λ t.
+    cond (ltb (w .gross) (t .weight)) (Err Light) (Ok (invoice w t)))))
 
 -- The bill is answered, and the weighing is marked billed.
 abbrev pub bill-answer : Mem → ℕ → Result Invoice LedgerError

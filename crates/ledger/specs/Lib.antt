@@ -2,3 +2,5 @@
 pub mod Layout
 pub mod Records
 pub mod Book
+pub mod Day
+pub mod Plan

@@ -39,12 +39,15 @@ pub impl fmt::Display for LedgerError as LedgerErrorDisplay {
     fn fmt<W: fmt::Write>(&self, f: &mut fmt::Formatter<W>) -> fmt::Result {
         match self {
             LedgerError::Memory(refusal) => write!(f, "{refusal}"),
-            LedgerError::NoTruck => write!(f, "there is no such truck"),
-            LedgerError::NoTicket => write!(f, "there is no such ticket"),
-            LedgerError::NoTare => write!(f, "the truck has no tare"),
-            LedgerError::NotBilled => write!(f, "the ticket holds a weighing that is not yet billed"),
-            LedgerError::NotOpen => write!(f, "the ticket holds no weighing to bill"),
-            LedgerError::Light => write!(f, "the truck weighs less than its tare"),
+            LedgerError::NoTruck => write!(f, "refused: there is no such truck"),
+            LedgerError::NoTicket => write!(f, "refused: there is no such ticket"),
+            LedgerError::NoTare => write!(f, "refused: the truck has no tare"),
+            LedgerError::NotBilled => write!(
+                f,
+                "refused: the ticket holds a weighing that is not yet billed"
+            ),
+            LedgerError::NotOpen => write!(f, "refused: the ticket holds no weighing to bill"),
+            LedgerError::Light => write!(f, "refused: the truck weighs less than its tare"),
         }
     }
 }

@@ -130,6 +130,10 @@ impl Weighing {
         let truck = u16::from_be_bytes([bytes[2], bytes[3]]);
         let gross = u32::from_be_bytes([bytes[4], bytes[5], bytes[6], bytes[7]]);
         let stamp = Stamp::decode(bytes);
-        Some(Weighing { truck, gross, stamp })
+        Some(Weighing {
+            truck,
+            gross,
+            stamp,
+        })
     }
 }

@@ -1,20 +1,20 @@
 -- The bytes that records give: at each place, and with one record more.
-use mathlib.Core.Path.{_≡_, refl, ap, sym, _∙_}
-use mathlib.Core.Bool.{Bool, true, false, cond, _||_}
-use mathlib.Core.List.{List, [], _∷_, _++_, map}
+use mathlib.Core.Path.{_≡_, ap, sym, _∙_}
+use mathlib.Core.Bool.{true, _||_}
+use mathlib.Core.List.{List, [], _∷_, _++_}
 use mathlib.Core.Logic.{⊎-elim}
-use Prim.Native.Nat.{ℕ, zero, suc, _+_, _*_, _/_, _%_, _<_, _≤_}
+use Prim.Native.Nat.{ℕ, _+_, _/_, _%_, _<_, _≤_}
 use native.Mathlib.Nat.{mod-lt}
 use native.Mathlib.Omega.{arith}
 use lib.Dec.{eqb, ltb}
-use lib.ListN.{length, getD, set, take, drop, replicate}
-use Rattle.std.specs.Iters.{counting, folded}
-use Rattle.std.proofs.shelf.Counted.{length-map-counting, getD-map-counting, fill-by-all, map-counting-more}
+use lib.ListN.{length, getD, set, take, replicate}
+use Rattle.std.specs.Iters.{folded}
+use Rattle.std.proofs.shelf.Counted.{length-map-counting, getD-map-counting, fill-by-all}
 use Rattle.std.proofs.shelf.Lists.{ext-getD, length-set, getD-set-same, getD-set-other, getD-past, length-replicate, getD-replicate, take-more}
 use lib.Seq.{paste}
 use Rattle.std.proofs.shelf.Edits.{paste-more}
 use Rattle.std.proofs.shelf.Sums.{folded-push}
-use Rattle.std.proofs.shelf.Tests.{cases-eq, cases-lt, cond-both, cond-true, cond-false, eq-eqb, ne-eqb, ltb-true, lt-ltb, le-ltb}
+use Rattle.std.proofs.shelf.Tests.{cases-eq, cases-lt, cond-both, cond-true, cond-false, eq-eqb, ne-eqb, ltb-true, lt-ltb}
 use Rattle.memory.specs.Sizes.{array-places, places, byte-values, record-limit}
 use Rattle.memory.specs.Journal.{factory, replaced, byte-at, bytes-of, is-record, record-word, records-of}
 
@@ -48,11 +48,11 @@ bytes-push rs word is =
     let at = word / byte-values in
     let long : length (set (bytes-of rs) at (word % byte-values)) ≡ places = length-set (bytes-of rs) at (word % byte-values) ∙ length-bytes-of rs in
     sym (bytes-from (set (bytes-of rs) at (word % byte-values)) (rs ++ (word ∷ [])) long (λ k low.
-      ⊎-elim
-      (λ same. here k low same)
-      (λ other. getD-set-other (bytes-of rs) at k (word % byte-values) 0 (λ e. other (sym e)) ∙ getD-bytes-of rs k low
-        ∙ sym (byte-at-push rs word k ∙ cond-false (eqb at k) _ _ (ne-eqb at k other)))
-      (cases-eq at k)))
+    ⊎-elim
+    (λ same. here k low same)
+    (λ other. getD-set-other (bytes-of rs) at k (word % byte-values) 0 (λ e. other (sym e)) ∙ getD-bytes-of rs k low
+    ∙ sym (byte-at-push rs word k ∙ cond-false (eqb at k) _ _ (ne-eqb at k other)))
+    (cases-eq at k)))
   where
     here : (k : ℕ) → k < places → word / byte-values ≡ k → getD (set (bytes-of rs) (word / byte-values) (word % byte-values)) k 0 ≡ byte-at (rs ++ (word ∷ [])) k
     here k low same =
@@ -99,8 +99,8 @@ filled xs n x long each =
 
 -- The bytes gathered from the first words, one record more.
 pub gathered-more : (ws : List ℕ) (i : ℕ) (xs : List ℕ) (place byte : ℕ) → i < length ws → is-record (getD ws i 0) ≡ true
-  → xs ≡ bytes-of (take i ws) → place ≡ getD ws i 0 / byte-values → byte ≡ getD ws i 0 % byte-values
-  → set xs place byte ≡ bytes-of (take (i + 1) ws)
+    → xs ≡ bytes-of (take i ws) → place ≡ getD ws i 0 / byte-values → byte ≡ getD ws i 0 % byte-values
+    → set xs place byte ≡ bytes-of (take (i + 1) ws)
 gathered-more ws i xs place byte more is was at of =
     (λ j. set (was j) (at j) (of j))
     ∙ sym (bytes-push (take i ws) (getD ws i 0) is)
@@ -117,8 +117,8 @@ getD-records-of bs place low = getD-map-counting (λ place. record-word place (g
 
 -- One record more that is laid down.
 pub laid-more : (ws bs : List ℕ) (now : List ℕ) (place word : ℕ) → places ≤ length ws → place < places
-  → now ≡ paste ws 0 (records-of bs) place → word ≡ record-word place (getD bs place 0)
-  → set now place word ≡ paste ws 0 (records-of bs) (place + 1)
+    → now ≡ paste ws 0 (records-of bs) place → word ≡ record-word place (getD bs place 0)
+    → set now place word ≡ paste ws 0 (records-of bs) (place + 1)
 laid-more ws bs now place word room low was is =
     let at : 0 + place ≡ place = omega arith in
     (λ j. set (was j) (sym at j) ((is ∙ sym (getD-records-of bs place low)) j))

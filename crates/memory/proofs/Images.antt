@@ -1,6 +1,6 @@
 -- What the bytes of an image are after a read and a write.
-use mathlib.Core.Path.{_≡_, refl, ap, sym, _∙_}
-use mathlib.Core.Bool.{true, _&&_}
+use mathlib.Core.Path.{_≡_, refl, ap, _∙_}
+use mathlib.Core.Bool.{true}
 use mathlib.Core.List.{List, map}
 use mathlib.Core.Logic.{⊎-elim}
 use Prim.Native.Nat.{ℕ, _-_, _%_, _<_, _≤_}
@@ -60,7 +60,7 @@ image-fit-less bs n place byte fit =
 
 -- What a write that is made leaves of the image.
 pub image-written : (bs : List ℕ) (n place byte : ℕ) → byte < byte-values → write (image bs n) place ≡ Ok tt
-  → image (set bs place byte) (n - 1) ≡ written (image bs n) place byte
+    → image (set bs place byte) (n - 1) ≡ written (image bs n) place byte
 image-written bs n place byte small passed =
     let fit = write-passed (image bs n) place passed .0 in
     let after = image-fit-less bs n place byte fit in
@@ -70,7 +70,7 @@ image-written bs n place byte small passed =
 
 -- A byte that is read from a fit image.
 pub image-read : (bs : List ℕ) (n place : ℕ) → image-fit bs n ≡ true → place < places → getD bs place 0 < byte-values
-  → Ok (getD bs place 0) ≡ read (image bs n) place
+    → Ok (getD bs place 0) ≡ read (image bs n) place
 image-read bs n place fit low small =
     let long = image-long bs n fit in
     let at : getD (image-bytes bs) place 0 ≡ getD bs place 0 = image-at bs place low (omega arith) ∙ mod-eq-of-lt small in

@@ -1,6 +1,6 @@
 -- What a journal holds after a record more, and after its bytes are laid down anew.
 use mathlib.Core.Path.{_≡_, refl, ap, sym, subst, _∙_}
-use mathlib.Core.Bool.{Bool, true, false, cond, _&&_}
+use mathlib.Core.Bool.{Bool, true, false, cond}
 use mathlib.Core.List.{List, [], _∷_, _++_, map}
 use mathlib.Core.Logic.{⊎-elim}
 use Prim.Native.Nat.{ℕ, zero, suc, _+_, _-_, _*_, _<_, _≤_}
@@ -8,7 +8,7 @@ use native.Mathlib.Nat.{add-mul, one-mul, zero-mul}
 use native.Mathlib.Numerals.{add-one, one-add}
 use native.Mathlib.Omega.{arith}
 use lib.Dec.{eqb, leb, ltb}
-use lib.ListN.{length, getD, set, take, replicate}
+use lib.ListN.{length, getD, set, replicate}
 use Rattle.std.specs.Iters.{counting}
 use Rattle.std.specs.shelf.Lists.{leading}
 use Rattle.std.specs.declared.result.Result.the-variants.{Ok}
@@ -17,9 +17,9 @@ use Rattle.std.proofs.shelf.Edits.{paste-all}
 use Rattle.std.proofs.shelf.Counted.{map-counting-more}
 use Rattle.std.proofs.shelf.Lists.{length-set, length-append, length-push, length-replicate, drop-replicate}
 use Rattle.std.proofs.shelf.Sums.{leading-le-length}
-use Rattle.std.proofs.shelf.Tests.{and-parts, and-from, leb-true, le-leb, eqb-true, eqb-false, cond-true, cond-false, cond-both, cases-order, lt-ltb, le-ltb, eq-eqb, ne-eqb}
+use Rattle.std.proofs.shelf.Tests.{and-parts, and-from, leb-true, le-leb, eqb-true, eqb-false, cond-true, cond-false, cases-order, lt-ltb, le-ltb, eq-eqb, ne-eqb}
 use Rattle.memory.specs.Sizes.{places, byte-values, fewest-words, most-words, most-erasures}
-use Rattle.memory.specs.Model.{Mem, Whole, read, with-byte}
+use Rattle.memory.specs.Model.{Whole, read, with-byte}
 use Rattle.memory.specs.Journal.{blank, record-word, is-record, factory, byte-at, bytes-of, used-words, records, is-orderly, journal-fit, journal-life, journal, full, records-of, laid-down, with-room, erasures-after, words-after}
 use Rattle.memory.proofs.ByteLaws.{length-bytes-of, getD-bytes-of, bytes-from, bytes-push, bytes-small, byte-at-push, word-is-record, word-place, word-byte, length-records-of, getD-records-of}
 use Rattle.memory.proofs.WordLaws.{Laid, laid-of, laid-used, laid-records, laid-orderly, laid-append}
@@ -49,13 +49,13 @@ pick n k d f =
     ⊎-elim
     (λ same. cond-true (eqb n k) _ _ (eq-eqb n k same) ∙ ap f same ∙ sym (cond-true (ltb k (suc n)) _ _ (lt-ltb k (suc n) (omega arith))))
     (⊎-elim
-      (λ below. cond-false (eqb n k) _ _ (ne-eqb n k (λ e. omega arith)) ∙ cond-false (ltb k n) _ _ (le-ltb k n (omega arith)) ∙ sym (cond-false (ltb k (suc n)) _ _ (le-ltb k (suc n) (omega arith))))
-      (λ above. cond-false (eqb n k) _ _ (ne-eqb n k (λ e. omega arith)) ∙ cond-true (ltb k n) _ _ (lt-ltb k n above) ∙ sym (cond-true (ltb k (suc n)) _ _ (lt-ltb k (suc n) (omega arith)))))
+    (λ below. cond-false (eqb n k) _ _ (ne-eqb n k (λ e. omega arith)) ∙ cond-false (ltb k n) _ _ (le-ltb k n (omega arith)) ∙ sym (cond-false (ltb k (suc n)) _ _ (le-ltb k (suc n) (omega arith))))
+    (λ above. cond-false (eqb n k) _ _ (ne-eqb n k (λ e. omega arith)) ∙ cond-true (ltb k n) _ _ (lt-ltb k n above) ∙ sym (cond-true (ltb k (suc n)) _ _ (lt-ltb k (suc n) (omega arith)))))
     (cases-order n k)
 
 -- Records of bytes in rising order give these bytes again.
 laid-at : (bs : List ℕ) (k n : ℕ) → n ≤ places → ((j : ℕ) → getD bs j 0 < byte-values)
-  → byte-at (map (λ place. record-word place (getD bs place 0)) (counting 0 n)) k ≡ cond (ltb k n) (getD bs k 0) (factory k)
+    → byte-at (map (λ place. record-word place (getD bs place 0)) (counting 0 n)) k ≡ cond (ltb k n) (getD bs k 0) (factory k)
 laid-at bs k zero low small = sym (cond-false (ltb k 0) _ _ (le-ltb k 0 (omega arith)))
 laid-at bs k (suc n) low small =
     let rec : ℕ → ℕ = λ place. record-word place (getD bs place 0) in
@@ -106,8 +106,8 @@ module _ (ws : List ℕ) (e place byte : ℕ) (fit : journal-fit ws e ≡ true) 
   pub appended-is : journal (set ws (used-words ws) (record-word place byte)) e ≡ with-byte (journal ws e) place byte
   appended-is =
       let life : cond (journal-fit (set ws (used-words ws) (record-word place byte)) e) (journal-life (set ws (used-words ws) (record-word place byte)) e) 0
-            ≡ cond (journal-fit ws e) (journal-life ws e) 0 - 1 =
-          cond-true _ _ 0 appended-fit ∙ appended-life ∙ ap (λ n. n - 1) (sym (cond-true (journal-fit ws e) _ 0 fit)) in
+      ≡ cond (journal-fit ws e) (journal-life ws e) 0 - 1 =
+      cond-true _ _ 0 appended-fit ∙ appended-life ∙ ap (λ n. n - 1) (sym (cond-true (journal-fit ws e) _ 0 fit)) in
       λ i. record { fit = (appended-fit ∙ sym fit) i; bytes = appended-bytes i; life = life i }
 
 leading-all : (p : ℕ → Bool) (xs : List ℕ) → ((k : ℕ) → k < length xs → p (getD xs k 0) ≡ true) → leading p xs ≡ length xs
@@ -126,9 +126,9 @@ module _ (ws : List ℕ) (e : ℕ) (fit : journal-fit ws e ≡ true) (is-full : 
   down-proper : leading is-record (records-of (bytes-of (records ws))) ≡ length (records-of (bytes-of (records ws)))
   down-proper =
       leading-all is-record (records-of (bytes-of (records ws))) (λ k below.
-        let low : k < places = omega (arith, length-records-of (bytes-of (records ws))) in
-        ap is-record (getD-records-of (bytes-of (records ws)) k low)
-        ∙ word-is-record k (getD (bytes-of (records ws)) k 0) low (bytes-small (records ws) k))
+      let low : k < places = omega (arith, length-records-of (bytes-of (records ws))) in
+      ap is-record (getD-records-of (bytes-of (records ws)) k low)
+      ∙ word-is-record k (getD (bytes-of (records ws)) k 0) low (bytes-small (records ws) k))
 
   down-laid : Laid (laid-down ws) (records-of (bytes-of (records ws)))
   down-laid =
@@ -138,7 +138,7 @@ module _ (ws : List ℕ) (e : ℕ) (fit : journal-fit ws e ≡ true) (is-full : 
       record {
         fits = omega (arith, down-long, f .enough);
         proper = down-proper;
-        shape = ap (λ n. records-of (bytes-of (records ws)) ++ replicate n blank) left
+        shape = ap (λ n. records-of (bytes-of (records ws)) ++ replicate n blank) left;
       }
 
   pub down-used : used-words (laid-down ws) ≡ places
@@ -156,13 +156,13 @@ module _ (ws : List ℕ) (e : ℕ) (fit : journal-fit ws e ≡ true) (is-full : 
   down-life =
       let won : (e - 1) * (length (laid-down ws) - places) ≡ (e - 1) * (length ws - places) = ap (λ n. (e - 1) * (n - places)) down-long in
       let one : e * (length ws - places) ≡ (e - 1) * (length ws - places) + (length ws - places) =
-          ap (λ n. n * (length ws - places)) (omega arith) ∙ add-mul (e - 1) 1 (length ws - places) ∙ ap (λ n. (e - 1) * (length ws - places) + n) (one-mul (length ws - places)) in
+      ap (λ n. n * (length ws - places)) (omega arith) ∙ add-mul (e - 1) 1 (length ws - places) ∙ ap (λ n. (e - 1) * (length ws - places) + n) (one-mul (length ws - places)) in
       omega (arith, down-used, down-long)
 
   pub down-is : journal (laid-down ws) (e - 1) ≡ journal ws e
   down-is =
       let life : cond (journal-fit (laid-down ws) (e - 1)) (journal-life (laid-down ws) (e - 1)) 0 ≡ cond (journal-fit ws e) (journal-life ws e) 0 =
-          cond-true _ _ 0 down-fit ∙ down-life ∙ sym (cond-true (journal-fit ws e) _ 0 fit) in
+      cond-true _ _ 0 down-fit ∙ down-life ∙ sym (cond-true (journal-fit ws e) _ 0 fit) in
       λ i. record { fit = (down-fit ∙ sym fit) i; bytes = down-bytes i; life = life i }
 
 -- A fit journal with life has room, or makes it.
@@ -180,9 +180,9 @@ spare-erasure ws (suc e) fit alive is-full = omega arith
 
 module _ (ws : List ℕ) (e : ℕ) (fit : journal-fit ws e ≡ true) (alive : 0 < journal ws e .life) where
   room-by : (b : Bool) → full ws ≡ b
-    → (journal (cond b (laid-down ws) ws) (cond b (e - 1) e) ≡ journal ws e)
-    × (journal-fit (cond b (laid-down ws) ws) (cond b (e - 1) e) ≡ true)
-    × (used-words (cond b (laid-down ws) ws) < length (cond b (laid-down ws) ws))
+      → (journal (cond b (laid-down ws) ws) (cond b (e - 1) e) ≡ journal ws e)
+      × (journal-fit (cond b (laid-down ws) ws) (cond b (e - 1) e) ≡ true)
+      × (used-words (cond b (laid-down ws) ws) < length (cond b (laid-down ws) ws))
   room-by true is =
       let all = eqb-true (used-words ws) (length ws) is in
       let spare = spare-erasure ws e fit alive all in
@@ -197,7 +197,7 @@ module _ (ws : List ℕ) (e : ℕ) (fit : journal-fit ws e ≡ true) (alive : 0 
 
   -- The words and erasures after a write are the memory with the byte in it.
   pub words-after-is : (place byte : ℕ) → place < places → byte < byte-values
-    → journal (words-after ws place byte) (erasures-after ws e) ≡ with-byte (journal ws e) place byte
+      → journal (words-after ws place byte) (erasures-after ws e) ≡ with-byte (journal ws e) place byte
   words-after-is place byte low small =
       appended-is (with-room ws) (erasures-after ws e) place byte (room-made .fit) (room-made .left) low small
       ∙ ap (λ m. with-byte m place byte) (room-made .is)

@@ -1,16 +1,12 @@
 -- What the answers of a memory tell of it.
-use mathlib.Core.Path.{_≡_, refl, ap, sym, _∙_}
-use mathlib.Core.Bool.{Bool, true, false, cond}
+use mathlib.Core.Path.{_≡_, ap, sym, _∙_}
+use mathlib.Core.Bool.{Bool, true, false}
 use mathlib.Core.List.{List}
 use Prim.Native.Nat.{ℕ, _<_}
 use native.Mathlib.Omega.{arith}
-use lib.Dec.{eqb, ltb}
 use Rattle.std.specs.declared.result.Result.{Result}
 use Rattle.std.specs.declared.result.Result.the-variants.{Ok, Err}
-use Rattle.std.specs.Results.{isOk}
-use Rattle.std.proofs.shelf.Tests.{ltb-true, eqb-false, cases-bool, cond-both}
 use Rattle.memory.specs.declared.refusal.Refusal.{Refusal}
-use Rattle.memory.specs.declared.refusal.Refusal.the-variants.{Unfit, Place, Worn, Short}
 use Rattle.memory.specs.Sizes.{places}
 use Rattle.memory.specs.Model.{Mem, place-check, claim, write, written, with-byte}
 
@@ -41,11 +37,11 @@ same-mem m fit life f l = λ i. record { fit = f i; bytes = m .bytes; life = l i
 
 -- An answer found from fitness and life is the memory's own.
 pub claim-answer : (m : Mem) (fit : Bool) (life n : ℕ) (r : Result Unit Refusal) → fit ≡ m .fit → life ≡ m .life
-  → ((bytes : List ℕ) → r ≡ claim (record { fit = fit; bytes = bytes; life = life }) n) → r ≡ claim m n
+    → ((bytes : List ℕ) → r ≡ claim (record { fit = fit; bytes = bytes; life = life }) n) → r ≡ claim m n
 claim-answer m fit life n r f l found = found (m .bytes) ∙ ap (λ x. claim x n) (same-mem m fit life f l)
 
 pub write-answer : (m : Mem) (fit : Bool) (life place : ℕ) (r : Result Unit Refusal) → fit ≡ m .fit → life ≡ m .life
-  → ((bytes : List ℕ) → r ≡ write (record { fit = fit; bytes = bytes; life = life }) place) → r ≡ write m place
+    → ((bytes : List ℕ) → r ≡ write (record { fit = fit; bytes = bytes; life = life }) place) → r ≡ write m place
 write-answer m fit life place r f l found = found (m .bytes) ∙ ap (λ x. write x place) (same-mem m fit life f l)
 
 -- What is known where a write is not refused.
@@ -56,7 +52,7 @@ pub record Allowed (m : Mem) (place : ℕ) : Type 0 where
   pub alive : 0 < m .life
 
 pub allowed : (m : Mem) (fit : Bool) (life place : ℕ) → fit ≡ m .fit → life ≡ m .life
-  → ((bytes : List ℕ) → Ok tt ≡ write (record { fit = fit; bytes = bytes; life = life }) place) → Allowed m place
+    → ((bytes : List ℕ) → Ok tt ≡ write (record { fit = fit; bytes = bytes; life = life }) place) → Allowed m place
 allowed m fit life place f l found =
     let ok = sym (write-answer m fit life place (Ok tt) f l found) in
     let all = write-passed m place ok in

@@ -1,11 +1,11 @@
 -- A run of bytes as it is written, byte by byte, and a list of writes as it is worked.
 use mathlib.Core.Path.{_≡_, refl, ap, sym, _∙_}
 use mathlib.Core.Bool.{Bool, true, false, cond}
-use mathlib.Core.List.{List, [], _∷_, _++_}
+use mathlib.Core.List.{List}
 use Prim.Native.Nat.{ℕ, _+_, _-_, _<_, _≤_}
 use native.Mathlib.Omega.{arith}
 use lib.Dec.{ltb, eqb}
-use lib.ListN.{length, getD, set, take, drop}
+use lib.ListN.{length, getD, set, drop}
 use lib.Seq.{paste}
 use Rattle.std.specs.declared.result.Result.the-variants.{Ok}
 use Rattle.std.specs.Results.{isOk}
@@ -14,7 +14,7 @@ use Rattle.std.proofs.shelf.Tests.{eqb-false, cases-bool, cond-both}
 use Rattle.std.proofs.shelf.Lists.{at-drop-more, at-drop-all, ext-getD, length-take, length-drop, getD-take, getD-drop}
 use Rattle.memory.specs.declared.runs.ByteWrite.{ByteWrite}
 use Rattle.memory.specs.Sizes.{places}
-use Rattle.memory.specs.Model.{Mem, Whole, read, write, written, with-byte}
+use Rattle.memory.specs.Model.{Mem, Whole, read, write, written}
 use Rattle.memory.specs.Runs.{fetch, run-at, with-run, after, made}
 use Rattle.memory.proofs.Rules.{written-made}
 
@@ -38,7 +38,7 @@ takes m place fit low alive = grind arith
 
 -- One byte more of a run that there is room and life for.
 module _ (m : Mem) (place : ℕ) (run : List ℕ) (i : ℕ)
-  (fit : m .fit ≡ true) (whole : Whole m) (room : place + length run ≤ places) (life : length run ≤ m .life) (more : i < length run) where
+    (fit : m .fit ≡ true) (whole : Whole m) (room : place + length run ≤ places) (life : length run ≤ m .life) (more : i < length run) where
   pub partial-takes : write (partial m place run i) (place + i) ≡ Ok tt
   partial-takes = takes (partial m place run i) (place + i) fit (omega arith) (omega arith)
 
@@ -70,27 +70,27 @@ life-spent m place byte = grind (arith, cases-bool (m .fit), cases-bool (ltb pla
 
 -- One write more, made or refused.
 pub worked-more : (m now next : Mem) (ws : List ByteWrite) (i count count′ : ℕ) (d : ByteWrite) → i < length ws
-  → next ≡ written now (getD ws i d .place) (getD ws i d .byte)
-  → count′ ≡ count + cond (isOk (write now (getD ws i d .place))) 1 0
-  → Worked m now ws i count → Worked m next ws (i + 1) count′
+    → next ≡ written now (getD ws i d .place) (getD ws i d .byte)
+    → count′ ≡ count + cond (isOk (write now (getD ws i d .place))) 1 0
+    → Worked m now ws i count → Worked m next ws (i + 1) count′
 worked-more m now next ws i count count′ d more is counted so =
     let w : ByteWrite = getD ws i d in
     let one : ℕ = cond (isOk (write now (w .place))) 1 0 in
     let spent = life-spent now (w .place) (w .byte) in
     let rest : made now (drop i ws) ≡ one + made next (drop (i + 1) ws) =
-        at-drop-more (made now) ws i d more ∙ ap (λ n. one + made n (drop (i + 1) ws)) (sym is) in
+    at-drop-more (made now) ws i d more ∙ ap (λ n. one + made n (drop (i + 1) ws)) (sym is) in
     let small : one ≤ 1 = cond-both (isOk (write now (w .place))) 1 0 (λ x. x ≤ 1) (λ _. omega arith) (λ _. omega arith) in
     let life : next .life ≡ written now (w .place) (w .byte) .life = ap (λ n. n .life) is in
     record {
       few = omega (arith, so .few);
       counts = omega (arith, so .counts);
       leads = ap (λ n. after n (drop (i + 1) ws)) is ∙ sym (at-drop-more (after now) ws i d more) ∙ so .leads;
-      spent = omega (arith, so .spent)
+      spent = omega (arith, so .spent);
     }
 
 -- What a buffer holds once every place is read into it.
 pub fetched : (m : Mem) (place : ℕ) (xs : List ℕ) (n : ℕ) → Whole m → place + n ≤ places → length xs ≡ n
-  → ((k : ℕ) → k < n → getD xs k 0 ≡ getD (m .bytes) (place + k) 0) → xs ≡ run-at m place n
+    → ((k : ℕ) → k < n → getD xs k 0 ≡ getD (m .bytes) (place + k) 0) → xs ≡ run-at m place n
 fetched m place xs n whole room long each =
     ext-getD 0 xs (run-at m place n) (simp (length-take, length-drop) (omega (arith, whole .sized)))
     (λ k below. let h : k < n = omega arith in each k h ∙ sym (getD-take n (drop place (m .bytes)) k 0 h ∙ getD-drop place (m .bytes) k 0))
@@ -106,6 +106,6 @@ run-passed false place n passed = grind arith
 
 -- One byte more of a buffer that is read into.
 pub fill-next : (m : Mem) (place : ℕ) (xs : List ℕ) (i byte : ℕ) → i < length xs → byte ≡ getD (m .bytes) (place + i) 0
-  → ((k : ℕ) → k < i → getD xs k 0 ≡ getD (m .bytes) (place + k) 0)
-  → (k : ℕ) → k < i + 1 → getD (set xs i byte) k 0 ≡ getD (m .bytes) (place + k) 0
+    → ((k : ℕ) → k < i → getD xs k 0 ≡ getD (m .bytes) (place + k) 0)
+    → (k : ℕ) → k < i + 1 → getD (set xs i byte) k 0 ≡ getD (m .bytes) (place + k) 0
 fill-next m place xs i byte within is below k h = rw is (fill-by-more (λ k. getD (m .bytes) (place + k) 0) xs i 0 within below k h)

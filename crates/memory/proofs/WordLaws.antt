@@ -1,18 +1,17 @@
 -- Records, then blanks: what the words of a journal hold, and what a record more makes of them.
 use mathlib.Core.Path.{_≡_, refl, ap, sym, _∙_}
 use mathlib.Core.Bool.{Bool, true, false, cond, _&&_}
-use mathlib.Core.List.{List, [], _∷_, _++_, map}
+use mathlib.Core.List.{List, [], _∷_, _++_}
 use mathlib.Core.Logic.{_⊎_, inl, inr, ⊎-elim}
-use Prim.Native.Nat.{ℕ, zero, suc, _+_, _-_, _*_, _/_, _%_, _<_, _≤_}
+use Prim.Native.Nat.{ℕ, zero, suc, _+_, _-_, _*_, _<_, _≤_}
 use native.Mathlib.Nat.{zero-add, mul-le-mul}
 use native.Mathlib.Numerals.{one-add}
 use native.Mathlib.Omega.{arith}
-use lib.Dec.{eqb, ltb, leb}
+use lib.Dec.{eqb}
 use lib.ListN.{length, getD, set, take, drop, replicate}
-use Rattle.std.specs.Iters.{counting, folded}
 use Rattle.std.specs.shelf.Lists.{leading}
 use Rattle.std.proofs.shelf.Lists.{length-take-le, length-drop, length-set, length-append, length-push, take-all, take-more, take-at, take-append-drop, drop-append-le, drop-all, drop-at, set-at, append-assoc}
-use Rattle.std.proofs.shelf.Sums.{folded-push, folded-more, leading-le-length}
+use Rattle.std.proofs.shelf.Sums.{folded-more, leading-le-length}
 use Rattle.std.proofs.shelf.Tests.{cases-order, eq-eqb, eqb-true, and-parts, cond-true}
 use Rattle.memory.specs.Sizes.{places, most-words, most-erasures}
 use Rattle.memory.specs.Journal.{blank, blanks, is-record, used-words, records, is-orderly, replaced, byte-at, factory}
@@ -21,17 +20,19 @@ use Rattle.memory.specs.Journal.{blank, blanks, is-record, used-words, records
 pub leading-push-yes : (p : ℕ → Bool) (xs : List ℕ) (x : ℕ) → leading p xs ≡ length xs → p x ≡ true → leading p (xs ++ (x ∷ [])) ≡ length xs + 1
 leading-push-yes p [] x all passes = rw passes refl
 leading-push-yes p (y ∷ ys) x all passes =
-    elim (p y) as (λ b. cond b (1 + leading p ys) 0 ≡ suc (length ys) → cond b (1 + leading p (ys ++ (x ∷ []))) 0 ≡ suc (length ys) + 1)
-    [ true ↦ λ e. omega (arith, leading-push-yes p ys x (omega arith) passes)
-    | false ↦ λ e. absurd (omega arith) ] all
+    elim (p y) as (λ b. cond b (1 + leading p ys) 0 ≡ suc (length ys) → cond b (1 + leading p (ys ++ (x ∷ []))) 0 ≡ suc (length ys) + 1) [
+      | true ↦ λ e. omega (arith, leading-push-yes p ys x (omega arith) passes)
+      | false ↦ λ e. absurd (omega arith)
+    ] all
 
 -- A word more at the end does not count where one before it does not.
 pub leading-push-past : (p : ℕ → Bool) (xs : List ℕ) (x : ℕ) → leading p xs < length xs → leading p (xs ++ (x ∷ [])) ≡ leading p xs
 leading-push-past p [] x short = absurd (omega arith)
 leading-push-past p (y ∷ ys) x short =
-    elim (p y) as (λ b. cond b (1 + leading p ys) 0 < suc (length ys) → cond b (1 + leading p (ys ++ (x ∷ []))) 0 ≡ cond b (1 + leading p ys) 0)
-    [ true ↦ λ e. ap (λ n. 1 + n) (leading-push-past p ys x (omega arith))
-    | false ↦ λ e. refl ] short
+    elim (p y) as (λ b. cond b (1 + leading p ys) 0 < suc (length ys) → cond b (1 + leading p (ys ++ (x ∷ []))) 0 ≡ cond b (1 + leading p ys) 0) [
+      | true ↦ λ e. ap (λ n. 1 + n) (leading-push-past p ys x (omega arith))
+      | false ↦ λ e. refl
+    ] short
 
 -- Nor where it fails itself.
 pub leading-push-no : (p : ℕ → Bool) (xs : List ℕ) (x : ℕ) → p x ≡ false → leading p (xs ++ (x ∷ [])) ≡ leading p xs
@@ -73,29 +74,29 @@ module _ (ws : List ℕ) (i n : ℕ) (tidy : Bool) (more : i < length ws) (so : 
   surveyed-record n′ tidy′ n-is tidy-is so-far is =
       let next = take-more ws i 0 more in
       let count : used-words (take (i + 1) ws) ≡ n + 1 =
-          ap used-words next ∙ leading-push-yes is-record (take i ws) (getD ws i 0) (omega (arith, so .counts, long)) is ∙ omega (arith, long) in
+      ap used-words next ∙ leading-push-yes is-record (take i ws) (getD ws i 0) (omega (arith, so .counts, long)) is ∙ omega (arith, long) in
       let none : tidy ≡ true = so .tells ∙ ap blanks (drop-all (used-words (take i ws)) (take i ws) (omega (arith, so .counts, long))) in
       record {
         counts = n-is ∙ sym count;
-        tells = tidy-is ∙ none ∙ sym (ap blanks (drop-all (used-words (take (i + 1) ws)) (take (i + 1) ws) (omega (arith, count, length-take-le (i + 1) ws (omega arith)))))
+        tells = tidy-is ∙ none ∙ sym (ap blanks (drop-all (used-words (take (i + 1) ws)) (take (i + 1) ws) (omega (arith, count, length-take-le (i + 1) ws (omega arith)))));
       }
 
   -- Any other word: what follows the records stays blank only if it is.
   pub surveyed-other : (n′ : ℕ) (tidy′ : Bool) → n′ ≡ n → tidy′ ≡ (tidy && eqb (getD ws i 0) blank)
-    → (n ≡ i → ⊥) ⊎ (is-record (getD ws i 0) ≡ false) → Surveyed ws (i + 1) n′ tidy′
+      → (n ≡ i → ⊥) ⊎ (is-record (getD ws i 0) ≡ false) → Surveyed ws (i + 1) n′ tidy′
   surveyed-other n′ tidy′ n-is tidy-is other =
       let few : n ≤ length (take i ws) = omega (arith, so .counts, leading-le-length is-record (take i ws)) in
       let next = take-more ws i 0 more in
       let count : used-words (take (i + 1) ws) ≡ n =
-          ap used-words next
-          ∙ ⊎-elim (λ past. leading-push-past is-record (take i ws) (getD ws i 0) (⊎-elim (λ e. absurd (past (omega (arith, long)))) (λ h. omega (arith, so .counts)) (level-or-below n (length (take i ws)) few))) (leading-push-no is-record (take i ws) (getD ws i 0)) other
-          ∙ sym (so .counts) in
+      ap used-words next
+      ∙ ⊎-elim (λ past. leading-push-past is-record (take i ws) (getD ws i 0) (⊎-elim (λ e. absurd (past (omega (arith, long)))) (λ h. omega (arith, so .counts)) (level-or-below n (length (take i ws)) few))) (leading-push-no is-record (take i ws) (getD ws i 0)) other
+      ∙ sym (so .counts) in
       let rest : drop (used-words (take (i + 1) ws)) (take (i + 1) ws) ≡ drop n (take i ws) ++ (getD ws i 0 ∷ []) =
-          (λ j. drop (count j) (next j)) ∙ drop-append-le n (take i ws) (getD ws i 0 ∷ []) few in
+      (λ j. drop (count j) (next j)) ∙ drop-append-le n (take i ws) (getD ws i 0 ∷ []) few in
       let was : tidy ≡ blanks (drop n (take i ws)) = so .tells ∙ ap (λ k. blanks (drop k (take i ws))) (sym (so .counts)) in
       record {
         counts = n-is ∙ sym count;
-        tells = tidy-is ∙ ap (λ b. b && eqb (getD ws i 0) blank) was ∙ sym (ap blanks rest ∙ blanks-push (drop n (take i ws)) (getD ws i 0))
+        tells = tidy-is ∙ ap (λ b. b && eqb (getD ws i 0) blank) was ∙ sym (ap blanks rest ∙ blanks-push (drop n (take i ws)) (getD ws i 0));
       }
 
 -- A word that is not blank ends the order, and a blank one keeps it.
@@ -104,7 +105,7 @@ and-blank tidy word is = rw (eq-eqb word blank is) (elim tidy as (λ b. b ≡ (b
 
 -- The byte at a place, one record more.
 pub byte-more : (ws : List ℕ) (i place byte byte′ : ℕ) → i < length ws → byte ≡ byte-at (take i ws) place → byte′ ≡ replaced place byte (getD ws i 0)
-  → byte′ ≡ byte-at (take (i + 1) ws) place
+    → byte′ ≡ byte-at (take (i + 1) ws) place
 byte-more ws i place byte byte′ more was is =
     is ∙ ap (λ b. replaced place b (getD ws i 0)) was ∙ sym (folded-more (replaced place) (factory place) ws i 0 more)
 
@@ -127,9 +128,10 @@ leading-append p (x ∷ xs) ys all =
 leading-front : (p : ℕ → Bool) (xs : List ℕ) → leading p (take (leading p xs) xs) ≡ leading p xs
 leading-front p [] = refl
 leading-front p (x ∷ xs) =
-    elim (p x) as (λ b. p x ≡ b → leading p (take (cond b (1 + leading p xs) 0) (x ∷ xs)) ≡ cond b (1 + leading p xs) 0)
-    [ true ↦ λ e. ap (λ k. leading p (take k (x ∷ xs))) (one-add (leading p xs)) ∙ cond-true (p x) _ 0 e ∙ ap (λ n. 1 + n) (leading-front p xs)
-    | false ↦ λ e. refl ] refl
+    elim (p x) as (λ b. p x ≡ b → leading p (take (cond b (1 + leading p xs) 0) (x ∷ xs)) ≡ cond b (1 + leading p xs) 0) [
+      | true ↦ λ e. ap (λ k. leading p (take k (x ∷ xs))) (one-add (leading p xs)) ∙ cond-true (p x) _ 0 e ∙ ap (λ n. 1 + n) (leading-front p xs)
+      | false ↦ λ e. refl
+    ] refl
 
 blank-no-record : (n : ℕ) → leading is-record (replicate n blank) ≡ 0
 blank-no-record zero = refl
@@ -172,10 +174,10 @@ module _ (ws rs : List ℕ) (laid : Laid ws rs) where
         fits = simp (length-set, length-append) (omega arith);
         proper = leading-push-yes is-record rs w (laid .proper) is ∙ sym (length-push rs w);
         shape =
-          ap (λ xs. set xs (length rs) w) (laid .shape ∙ ap (λ k. rs ++ replicate k blank) left)
-          ∙ set-at rs blank (replicate n blank) w (length rs) refl
-          ∙ sym (append-assoc rs (w ∷ []) (replicate n blank))
-          ∙ ap (λ k. (rs ++ (w ∷ [])) ++ replicate k blank) (sym long)
+            ap (λ xs. set xs (length rs) w) (laid .shape ∙ ap (λ k. rs ++ replicate k blank) left)
+            ∙ set-at rs blank (replicate n blank) w (length rs) refl
+            ∙ sym (append-assoc rs (w ∷ []) (replicate n blank))
+            ∙ ap (λ k. (rs ++ (w ∷ [])) ++ replicate k blank) (sym long);
       }
 
 -- Orderly words are laid so.
@@ -188,5 +190,5 @@ laid-of ws tidy =
     record {
       fits = omega arith;
       proper = leading-front is-record ws ∙ sym long;
-      shape = sym (take-append-drop n ws) ∙ ap (λ xs. take n ws ++ xs) (blanks-are (drop n ws) tidy ∙ ap (λ k. replicate k blank) rest)
+      shape = sym (take-append-drop n ws) ∙ ap (λ xs. take n ws ++ xs) (blanks-are (drop n ws) tidy ∙ ap (λ k. replicate k blank) rest);
     }

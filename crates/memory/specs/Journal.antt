@@ -26,7 +26,7 @@ is-record word = ltb word record-limit
 -- A place without a record holds its factory byte: FFh in the array, 20h at registers 07h and 0Fh, else 00h.
 abbrev pub factory : ℕ → ℕ
 factory place =
-  cond (ltb place array-places) 0xFF
+    cond (ltb place array-places) 0xFF
     (cond (eqb place (array-places + 0x07) || eqb place (array-places + 0x0F)) 0x20 0x00)
 
 -- A record of the place replaces the byte that came before it.
@@ -60,7 +60,7 @@ is-orderly words = blanks (drop (used-words words) words)
 -- It is fit with 533 to 16,384 words, records then blanks only, and up to 100,000 erasures.
 abbrev pub journal-fit : List ℕ → ℕ → Bool
 journal-fit words erasures =
-  leb fewest-words (length words) && (leb (length words) most-words && (leb erasures most-erasures && is-orderly words))
+    leb fewest-words (length words) && (leb (length words) most-words && (leb erasures most-erasures && is-orderly words))
 
 -- The life of a fit journal: the words left, and for each erasure the words that it wins.
 abbrev pub journal-life : List ℕ → ℕ → ℕ

@@ -1,12 +1,12 @@
 -- What work over any memory does: a run of bytes stored or fetched as a whole, and a list of writes.
-use mathlib.Core.Path.{_≡_, refl}
+use mathlib.Core.Path.{refl}
 use mathlib.Core.Bool.{Bool, cond}
 use mathlib.Core.List.{List, [], _∷_, _++_}
 use Prim.Native.Nat.{ℕ, _+_, _-_, min}
 use lib.Dec.{leb, ltb}
 use lib.ListN.{length, take, drop}
 use Rattle.std.specs.declared.result.Result.{Result}
-use Rattle.std.specs.declared.result.Result.the-variants.{Ok, Err}
+use Rattle.std.specs.declared.result.Result.the-variants.{Ok}
 use Rattle.std.specs.Results.{isOk}
 use Rattle.memory.specs.declared.refusal.Refusal.{Refusal}
 use Rattle.memory.specs.declared.refusal.Refusal.the-variants.{Unfit, Place, Short}
@@ -31,10 +31,10 @@ run-at m place n = take n (drop place (m .bytes))
 -- then by 5 and the life left if life is below n.
 abbrev pub store : Mem → ℕ → ℕ → Result Unit Refusal
 store m place n =
-  cond (m .fit)
+    cond (m .fit)
     (cond (leb (place + n) places)
-      (cond (ltb (m .life) n) (refused-with 5 (m .life) (Short (m .life)) refl refl) (Ok tt))
-      (refused 4 Place refl refl))
+    (cond (ltb (m .life) n) (refused-with 5 (m .life) (Short (m .life)) refl refl) (Ok tt))
+    (refused 4 Place refl refl))
     (refused 3 Unfit refl refl)
 
 -- A run that is stored: each of its bytes is there, the places before and after it are as they were, and life is less by their count.

@@ -127,7 +127,11 @@ impl<'a> Journal<'a> {
         ensures { λ r. ⌜ r ≡ held (now (self .entry) .log) .life ⌝ }
     {
         if self.fit {
-            life_of(self.log.words.len(), self.log.used, self.log.erasures)
+            life_of(
+                self.log.words.len(),
+                self.words_used(),
+                self.erasures_left(),
+            )
         } else {
             0
         }
@@ -158,7 +162,7 @@ pub impl<'a> Memory for Journal<'a> as JournalMemory {
 
     fn read(&self, place: usize) -> Result<u8, Refusal> {
         check_place(self.fit, place)?;
-        Ok(latest_byte(self.log.words, self.log.used, place))
+        Ok(latest_byte(self.log.words, self.words_used(), place))
     }
 
     fn claim(&self, n: u32) -> Result<(), Refusal> {

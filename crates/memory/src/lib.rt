@@ -31,8 +31,7 @@ pub use sizes::MOST_ERASURES;
 pub use sizes::MOST_WORDS;
 pub use sizes::MOST_WRITES;
 pub use sizes::PLACES;
-pub use sizes::is_place;
-pub use words::factory_byte;
+pub use words::BLANK;
 pub use words::factory_bytes;
 
 /// A memory: places with one byte each, and a life, the byte writes that it will still take.

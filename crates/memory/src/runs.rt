@@ -1,7 +1,7 @@
 //! Work over any memory: a run of bytes stored or fetched as a whole, and a list of writes.
 ghost use mathlib.Core.Path.{_≡_};
 ghost use mathlib.Core.Bool.{cond, true};
-ghost use Prim.Native.Nat.{_+_, _≤_};
+ghost use Prim.Native.Nat.{_+_, _^_, _<_, _≤_};
 ghost use lib.ListN.{length};
 ghost use Rattle.std.specs.Results.{isOk};
 ghost use Rattle.std.specs.declared.result.Result.the-variants.{Ok};
@@ -80,6 +80,14 @@ pub struct ByteWrite {
     pub byte: u8,
 }
 
+/// The count with one write more, if it was made.
+fn one_more(count: usize, made: bool) -> usize
+    requires { ⌜ count + 1 < 2 ^ 64 ⌝ }
+    ensures { λ r. ⌜ r ≡ count + cond made 1 0 ⌝ }
+{
+    if made { count + 1 } else { count }
+}
+
 /// Makes a list of writes, one after the other, passing over those that are refused. Answers how many were made.
 pub fn write_each<M: Memory>(memory: &mut M, writes: &[ByteWrite]) -> usize
     ensures count { λ r. ⌜ r ≡ made (holds (now (memory .entry))) (now (writes .entry)) ⌝ }
@@ -88,9 +96,8 @@ pub fn write_each<M: Memory>(memory: &mut M, writes: &[ByteWrite]) -> usize
 {
     let mut count = 0;
     for write in writes {
-        if memory.write(write.place, write.byte).is_ok() {
-            count += 1;
-        }
+        let made = memory.write(write.place, write.byte).is_ok();
+        count = one_more(count, made);
     }
     count
 }

@@ -22,7 +22,7 @@ pub const MOST_WORDS: usize = 16_384;
 pub const MOST_ERASURES: u32 = 100_000;
 
 /// Whether a memory has this place.
-pub fn is_place(place: usize) -> bool
+pub(crate) fn is_place(place: usize) -> bool
     ensures { λ r. ⌜ r ≡ ltb place places ⌝ }
 {
     place < PLACES

@@ -10,7 +10,7 @@ use crate::sizes::ARRAY_PLACES;
 use crate::sizes::PLACES;
 
 /// An erased word.
-const BLANK: u32 = 0xFFFF_FFFF;
+pub const BLANK: u32 = 0xFFFF_FFFF;
 
 /// The values that a byte can have.
 const BYTE_VALUES: u32 = 256;
@@ -54,7 +54,7 @@ fn is_record(word: u32) -> bool
 }
 
 /// The byte of a place that has no record.
-pub fn factory_byte(place: usize) -> u8
+pub(crate) fn factory_byte(place: usize) -> u8
     ensures { λ r. ⌜ r ≡ factory place ⌝ }
 {
     if place < ARRAY_PLACES {

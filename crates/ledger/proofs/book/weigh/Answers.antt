@@ -10,7 +10,7 @@ returns g c =
     let free = c .in-Continue-check-free .ensures tt in
     record {
       answer = weigh-passed m (c .args .ticket) (c .weighing-place .result) (c .args .load) (c .encode .result)
-        (omega arith) free (c .weighing-place .ensures) (c .encode .ensures .bytes) (kept .answer);
+          (omega arith) free (c .weighing-place .ensures) (c .encode .ensures .bytes) (kept .answer);
       after = kept .after ∙ weigh-left m (c .args .ticket) (c .weighing-place .result) (c .args .load) (c .encode .result)
-        (omega arith) free (c .weighing-place .ensures) (c .encode .ensures .bytes) (kept .answer)
+          (omega arith) free (c .weighing-place .ensures) (c .encode .ensures .bytes) (kept .answer);
     }

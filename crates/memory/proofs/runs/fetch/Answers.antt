@@ -20,5 +20,5 @@ returns g c =
     record {
       answer = c .in-Continue-check-run .ensures tt ∙ ap (λ fit. fetch fit (c .args .place) n) (c .is-fit .ensures .answer);
       after = fetched m (c .args .place) (c .loop-i .into) n
-          (c .is-fit .ensures .whole (passed .0)) (passed .1) (c .loop-i .kept .into) (λ k below. c .loop-i .inv k (omega arith))
+          (c .is-fit .ensures .whole (passed .0)) (passed .1) (c .loop-i .kept .into) (λ k below. c .loop-i .inv k (omega arith));
     }

@@ -1,4 +1,4 @@
-use mathlib.Core.Path.{ap, sym, _∙_}
+use mathlib.Core.Path.{ap, _∙_}
 use mathlib.Core.Path.{refl}
 use Prim.Native.Nat.{_+_}
 use native.Mathlib.Omega.{arith}
@@ -17,11 +17,11 @@ loop-i-again g c =
     c .write .ensures .after
     ∙ ap (λ m. written m (c .args .place + i) byte) (c .loop-i .inv)
     ∙ partial-more (g .M·Memory .holds (c .args .memory .now)) (c .args .place) (c .args .bytes .now) i
-        (c .pre .fit) (c .pre .whole) (c .pre .room) (c .pre .life) (c .loop-i-test .taken)
+    (c .pre .fit) (c .pre .whole) (c .pre .room) (c .pre .life) (c .loop-i-test .taken)
 
 pub returns : need.returns
 returns g c =
     record {
       answer = refl;
-      after = c .loop-i .inv ∙ partial-all (g .M·Memory .holds (c .args .memory .now)) (c .args .place) (c .args .bytes .now) (c .loop-i .i) (omega arith)
+      after = c .loop-i .inv ∙ partial-all (g .M·Memory .holds (c .args .memory .now)) (c .args .place) (c .args .bytes .now) (c .loop-i .i) (omega arith);
     }

@@ -1,6 +1,5 @@
-use mathlib.Core.Path.{sym}
 use native.Mathlib.Omega.{arith}
-use lib.ListN.{length, replicate}
+use lib.ListN.{length}
 use Rattle.std.proofs.shelf.Edits.{fill-by-more}
 use Rattle.memory.specs.Journal.{blank}
 use Rattle.memory.proofs.ByteLaws.{filled}

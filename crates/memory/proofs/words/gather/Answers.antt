@@ -16,10 +16,11 @@ index-bytes-record c =
 pub loop-i-again : need.loop-i-again
 loop-i-again c =
     let is = leading-at is-record (c .args .words .now) (c .loop-i .i) 0 (omega (arith, c .pre)) in
-    let of = c .of-word-record .ensures in
-    (omega arith,
-     gathered-more (c .args .words .now) (c .loop-i .i) (c .loop-i .bytes) (c .of-word-record .result .place) (c .of-word-record .result .byte)
-     (c .loop-i-test .taken) is (c .loop-i .inv .1) (of .place) (of .byte))
+    let of = c .of-word-record .ensures in (
+      omega arith,
+      gathered-more (c .args .words .now) (c .loop-i .i) (c .loop-i .bytes) (c .of-word-record .result .place) (c .of-word-record .result .byte)
+          (c .loop-i-test .taken) is (c .loop-i .inv .1) (of .place) (of .byte),
+    )
 
 pub returns-after-loop-i : need.returns-after-loop-i
 returns-after-loop-i c =

@@ -1,6 +1,6 @@
 use mathlib.Core.Path.{refl, ap, sym, _∙_}
 use native.Mathlib.Omega.{arith}
-use Rattle.std.specs.declared.result.Result.the-variants.{Ok, Err}
+use Rattle.std.specs.declared.result.Result.the-variants.{Err}
 use Rattle.std.proofs.shelf.Results.{err-from-errBy}
 use Rattle.memory.specs.Image.{image, image-fit, held}
 use Rattle.memory.proofs.Images.{image-long, image-fit-less, image-written, image-life}
@@ -17,7 +17,7 @@ returns-in-Break-check-write c =
     record {
       answer = answer;
       after = sym (written-refused m (c .args .place) (c .args .byte) (p .0) (sym answer ∙ p .1));
-      only = rw (p .1) refl
+      only = rw (p .1) refl;
     }
 
 pub put-requires : need.put-requires
@@ -41,6 +41,6 @@ returns c =
     record {
       answer = sym (ok .passed);
       after = (λ i. image (c .put .ensures .bytes i) (c .put .ensures .writes i))
-        ∙ image-written (s .cells .bytes .now) (s .cells .writes) (c .args .place) (c .args .byte) (omega arith) (ok .passed);
-      only = c .put .ensures .bytes
+          ∙ image-written (s .cells .bytes .now) (s .cells .writes) (c .args .place) (c .args .byte) (omega arith) (ok .passed);
+      only = c .put .ensures .bytes;
     }

@@ -9,4 +9,8 @@ pub life-of-requires : need.life-of-requires
 life-of-requires c κs =
     let s = c .args .self .now in
     let f = fit-parts (s .log .words .now) (s .log .erasures) (sym (s .decided) ∙ c .if-self .taken) in
-    record { used = omega (arith, s .counted, leading-le-length is-record (s .log .words .now)); words = f .few; erasures = f .erasures }
+    record {
+      used = omega (arith, c .words-used .ensures, leading-le-length is-record (s .log .words .now));
+      words = f .few;
+      erasures = omega (arith, f .erasures, c .erasures-left .ensures);
+    }

@@ -11,11 +11,11 @@ use Rattle.memory.proofs.journal.JournalMemory.read.Needs as need
 pub latest-byte-requires : need.latest-byte-requires
 latest-byte-requires c κs =
     let s = c .args .self .now in
-    omega (arith, s .counted, leading-le-length is-record (s .log .words .now))
+    omega (arith, c .words-used .ensures, leading-le-length is-record (s .log .words .now))
 
 pub returns : need.returns
 returns c =
     let s = c .args .self .now in
     let passed = place-passed (s .fit) (c .args .place) (sym (c .in-Continue-check-place .ensures tt)) in
-    ap Ok (c .latest-byte .ensures ∙ ap (λ n. byte-at (take n (s .log .words .now)) (c .args .place)) (s .counted))
+    ap Ok (c .latest-byte .ensures ∙ ap (λ n. byte-at (take n (s .log .words .now)) (c .args .place)) (c .words-used .ensures))
     ∙ journal-read (s .log .words .now) (s .log .erasures) (c .args .place) (sym (s .decided) ∙ passed .0) (passed .1)

@@ -18,7 +18,7 @@ returns-in-Break-check-write c =
       answer = answer;
       after = sym (written-refused m (c .args .place) (c .args .byte) (p .0) (sym answer ∙ p .1));
       words = rw (p .1) refl;
-      erasures = rw (p .1) refl
+      erasures = rw (p .1) refl;
     }
 
 pub put-requires : need.put-requires
@@ -41,8 +41,8 @@ returns c =
     record {
       answer = sym (ok .passed);
       after = (λ i. journal (c .put .ensures .words i) (c .put .ensures .erasures i))
-        ∙ words-after-is (s .log .words .now) (s .log .erasures) (ok .fit) (ok .alive) (c .args .place) (c .args .byte) (ok .low) (omega arith)
-        ∙ sym (written-made (held (s .log)) (c .args .place) (c .args .byte) (ok .passed));
+          ∙ words-after-is (s .log .words .now) (s .log .erasures) (ok .fit) (ok .alive) (c .args .place) (c .args .byte) (ok .low) (omega arith)
+          ∙ sym (written-made (held (s .log)) (c .args .place) (c .args .byte) (ok .passed));
       words = c .put .ensures .words;
-      erasures = c .put .ensures .erasures
+      erasures = c .put .ensures .erasures;
     }

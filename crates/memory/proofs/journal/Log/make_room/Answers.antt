@@ -13,7 +13,7 @@ renew-requires c κs =
     record {
       counted = c .pre .counted;
       long = omega (arith, f .enough);
-      spare = spare-erasure (log .words .now) (log .erasures) (c .pre .fit) (c .pre .alive) (sym (c .pre .counted) ∙ c .if-self .taken)
+      spare = spare-erasure (log .words .now) (log .erasures) (c .pre .fit) (c .pre .alive) (sym (c .pre .counted) ∙ c .if-self .taken);
     }
 
 pub returns-then-self : need.returns-then-self
@@ -25,5 +25,5 @@ returns-then-self c =
     record {
       words = c .renew .ensures .words ∙ sym (cond-true _ _ _ is-full);
       used = c .renew .ensures .used ∙ sym (ap used-words (c .renew .ensures .words) ∙ down-used (log .words .now) (log .erasures) (c .pre .fit) all spare);
-      erasures = c .renew .ensures .erasures ∙ sym (cond-true _ _ _ is-full)
+      erasures = c .renew .ensures .erasures ∙ sym (cond-true _ _ _ is-full);
     }

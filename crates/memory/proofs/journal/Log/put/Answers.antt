@@ -1,4 +1,4 @@
-use mathlib.Core.Path.{_≡_, ap, sym, _∙_}
+use mathlib.Core.Path.{ap, sym, _∙_}
 use native.Mathlib.Omega.{arith}
 use borrow.Author.Needs.{needs}
 use Prim.Native.Nat.{_+_}
@@ -26,5 +26,5 @@ returns c =
     record {
       words = words;
       used = c .append .ensures .used ∙ ap (λ n. n + 1) used ∙ sym (ap used-words words ∙ count);
-      erasures = c .append .ensures .erasures ∙ c .make-room .ensures .erasures
+      erasures = c .append .ensures .erasures ∙ c .make-room .ensures .erasures;
     }

@@ -17,14 +17,15 @@ loop-i-again c =
     let tidy = c .loop-i .orderly in
     let record-next = surveyed-record ws i (c .loop-i .used) tidy (c .loop-i-test .taken) (c .loop-i .inv) (c .if-used-i .used) (c .if-used-i .orderly) in
     let other-next = surveyed-other ws i (c .loop-i .used) tidy (c .loop-i-test .taken) (c .loop-i .inv) (c .if-used-i .used) (c .if-used-i .orderly) in
-    elim (c .if-used-i .came)
-    [ then-used-i·then-is-record w ↦ record-next (w .used-is) (w .orderly-is) (w .if-used-i .taken) (sym (w .if-is-record .ensures tt))
-    | else-used-i·then-word w ↦ other-next (w .used-is) (w .orderly-is ∙ sym (and-right tidy _ (ne-eqb (getD ws i 0) blank (w .if-word .taken))))
-        (elim (w .else-used-i .came)
+    elim (c .if-used-i .came) [
+      | then-used-i·then-is-record w ↦ record-next (w .used-is) (w .orderly-is) (w .if-used-i .taken) (sym (w .if-is-record .ensures tt))
+      | else-used-i·then-word w ↦ other-next (w .used-is) (w .orderly-is ∙ sym (and-right tidy _ (ne-eqb (getD ws i 0) blank (w .if-word .taken))))
+          (elim (w .else-used-i .came)
           [ else-used-i·by·then-used-i·else-is-record w′ ↦ inr (sym (w′ .if-is-record .ensures tt)) | else-used-i·by·else-used-i w′ ↦ inl (w′ .if-used-i .left) ])
-    | else-used-i·else-word w ↦ other-next (w .used-is) (w .orderly-is ∙ and-blank tidy (getD ws i 0) (w .if-word .left))
-        (elim (w .else-used-i .came)
-          [ else-used-i·by·then-used-i·else-is-record w′ ↦ inr (sym (w′ .if-is-record .ensures tt)) | else-used-i·by·else-used-i w′ ↦ inl (w′ .if-used-i .left) ]) ]
+      | else-used-i·else-word w ↦ other-next (w .used-is) (w .orderly-is ∙ and-blank tidy (getD ws i 0) (w .if-word .left))
+          (elim (w .else-used-i .came)
+          [ else-used-i·by·then-used-i·else-is-record w′ ↦ inr (sym (w′ .if-is-record .ensures tt)) | else-used-i·by·else-used-i w′ ↦ inl (w′ .if-used-i .left) ])
+    ]
 
 pub returns : need.returns
 returns c =
