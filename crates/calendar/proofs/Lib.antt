@@ -1,0 +1,11 @@
+pub mod Answered
+pub mod Bytes
+pub mod Existing
+pub mod Figures
+pub mod Fixed
+pub mod Lengths
+pub mod Ranges
+pub mod Rolling
+pub mod Seconds
+pub mod Stepping
+pub mod Sums

@@ -1,0 +1,9 @@
+pub mod Alarm
+pub mod Clock
+pub mod Dates
+pub mod Digits
+pub mod Hours
+pub mod Next
+pub mod Text
+pub mod Worked
+pub mod Years
