@@ -1,0 +1,15 @@
+pub mod Past
+pub mod Wires
+pub mod Frames
+pub mod Stored
+pub mod Latches
+pub mod Clock
+pub mod Counter
+pub mod Alarms
+pub mod Reads
+pub mod Stop
+pub mod History
+pub mod Script
+pub mod Show
+pub mod Law
+pub mod Cases
