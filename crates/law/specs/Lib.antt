@@ -1,0 +1,2 @@
+-- What the public call `run` promises.
+pub mod Run
