@@ -1,6 +1,6 @@
 -- The lock: which addresses of the array BL's top three bits close to writes.
 use Prim.Native.Nat.{ℕ, _/_}
-use mathlib.Core.Bool.{Bool, true, false, cond, _&&_}
+use mathlib.Core.Bool.{Bool, cond, _&&_}
 use lib.Dec.{eqb, ltb, leb}
 use Rattle.chip.specs.declared.locks.Stretch.{Stretch}
 use Rattle.chip.specs.Sizes.{array-length}

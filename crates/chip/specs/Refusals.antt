@@ -3,7 +3,6 @@ use Prim.Native.Nat.{ℕ}
 use Rattle.std.specs.declared.option.Option.{Option}
 use Rattle.std.specs.declared.option.Option.the-variants.{Some, None}
 use Rattle.memory.specs.Refusals.{number}
-use Rattle.memory.specs.declared.refusal.Refusal.{Refusal as MemoryRefusal}
 use Rattle.memory.specs.declared.refusal.Refusal.the-variants.{Unfit as MemoryUnfit, Place as MemoryPlace, Short as MemoryShort}
 use Rattle.chip.specs.declared.refusals.Line.{Line}
 use Rattle.chip.specs.declared.refusals.Line.the-variants.{Scl, Sda}

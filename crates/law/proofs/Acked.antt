@@ -1,23 +1,22 @@
 -- A fall that ends an acknowledge.
-use Prim.Native.Nat.{ℕ, zero, suc, _+_, _-_, _*_, _/_, _%_, _<_, _≤_, min}
+use Prim.Native.Nat.{ℕ, zero, suc, _+_, _*_, _/_, _%_, _<_, _≤_, min}
 use mathlib.Core.Path.{_≡_, refl, sym, ap, _∙_, subst}
-use mathlib.Core.Bool.{Bool, true, false, not, _&&_, cond}
-use mathlib.Core.Logic.{_⊎_, inl, inr, ⊎-elim}
-use mathlib.Core.List.{List, [], _∷_, _++_, map}
+use mathlib.Core.Bool.{Bool, true, false, _&&_, cond}
+use mathlib.Core.Logic.{⊎-elim}
+use mathlib.Core.List.{List, _∷_, map}
 use native.Mathlib.Omega.{arith}
-use lib.Dec.{eqb, ltb}
-use lib.ListN.{length, getD, drop, set, replicate}
+use lib.Dec.{eqb}
+use lib.ListN.{length, getD, drop, set}
 use Rattle.std.proofs.shelf.Lists.{drop-all, getD-replicate, getD-set-same, getD-set-other, length-set, length-replicate}
-use Rattle.std.proofs.shelf.Tests.{and-from, both-ways, eq-eqb, ne-eqb, cases-bool, cases-eq, cond-true, cond-false}
+use Rattle.std.proofs.shelf.Tests.{and-from, both-ways, eq-eqb, ne-eqb, cases-eq, cond-true, cond-false}
 use Rattle.std.specs.declared.option.Option.{Option}
 use Rattle.std.specs.declared.option.Option.the-variants.{Some, None}
 use Rattle.std.specs.Options.{valueOr, isSome}
 use Rattle.memory.specs.Model.{Mem}
-use Rattle.calendar.specs.declared.clock.Clock.{Clock}
 use Rattle.chip.specs.Bits.{is-zero-bit}
-use Rattle.chip.specs.Counter.{at-status, next-written, address-in, room-of}
+use Rattle.chip.specs.Counter.{at-status, next-written, address-in}
 use Rattle.chip.specs.Places.{place-of}
-use Rattle.chip.specs.Slaves.{slave-named, area-of, reads}
+use Rattle.chip.specs.Slaves.{slave-named}
 use Rattle.chip.specs.declared.registers.Section.the-variants.{Alarm0, Alarm1}
 use Rattle.chip.specs.declared.slaves.Area.{Area}
 use Rattle.chip.specs.declared.slaves.Area.the-variants.{Array, Registers}
@@ -25,30 +24,26 @@ use Rattle.chip.specs.declared.slaves.Slave.{Slave}
 use Rattle.chip.specs.declared.slaves.Slave.the-variants.{ArrayWrite, ArrayRead, RegisterWrite, RegisterRead}
 use Rattle.chip.specs.declared.wires.Levels.{Levels}
 use Rattle.rules.specs.Past.{History}
-use Rattle.rules.specs.Wires as wires
 use Rattle.rules.specs.Frames.{Sample, in-frame, sampled, number-from, byte-at, ninth, acknowledged, slave, area-written, area-read, address, data-byte}
-use Rattle.rules.specs.Counter.{counter, asked-on, sends-byte, at-fall}
-use Rattle.rules.specs.Stored.{last-sent, place-at, steps-on, span-of}
+use Rattle.rules.specs.Counter.{counter, sends-byte, at-fall}
+use Rattle.rules.specs.Stored.{last-sent, place-at}
 use Rattle.rules.specs.Clock.{clock}
 use Rattle.rules.specs.Alarms.{status-sent}
 use Rattle.rules.specs.Reads.{status, byte-sent, copied, pull-at-fall}
 use Rattle.x1226.specs.declared.state.Alarms.{Alarms}
-use Rattle.x1226.specs.declared.state.Phase.{Phase}
-use Rattle.x1226.specs.declared.state.Phase.the-variants.{Deaf, Receiving, Acknowledging, Sending, Listening}
+use Rattle.x1226.specs.declared.state.Phase.the-variants.{Receiving, Acknowledging}
 use Rattle.x1226.specs.declared.state.Staging.{Staging}
 use Rattle.x1226.specs.declared.state.State.{State}
-use Rattle.x1226.specs.State.{with-levels, with-phase, with-area, with-high, with-counter, with-staging, with-copies, empty-places}
+use Rattle.x1226.specs.State.{with-levels, with-phase, with-area, with-high, empty-places}
 use Rattle.x1226.specs.Frame.{pulls, fallen-in, sending, to-send, located, staged, addressed-as}
 use Rattle.x1226.specs.Frame as frame
 use Rattle.x1226.specs.Stop.{address-staged}
-use Rattle.law.proofs.Tracks.{scl, half, Holds, Open, Taking, Acking, Staged, Said, Copied, addressed-at, copied-at, Follows, Tracks}
+use Rattle.law.proofs.Tracks.{scl, half, Holds, Acking, Staged, Said, addressed-at, copied-at, Follows, Tracks}
 use Rattle.law.proofs.Moves.{steps-zero, steps-suc, staged-place, address-small}
 use Rattle.law.proofs.Picks.{byte-same}
 use Rattle.law.proofs.Rules.{writes-no-read, none-some, nothing-sent, bit-sent, count-stays, count-addressed, count-moved}
-use Rattle.law.proofs.Rising.{reads-no-write}
-use Rattle.law.proofs.Taking.{said-write}
 use Rattle.law.proofs.Sent.{sent-agrees, status-agrees}
-use Rattle.law.proofs.Falling.{fell, flag-kept, fall-holds, opened-still, copied-stays, addressed-stays, copied-now, since-now, addressed-now, pull-other, count-open, status-elsewhere}
+use Rattle.law.proofs.Falling.{fell, flag-kept, fall-holds, opened-still, addressed-stays, copied-now, since-now, addressed-now, pull-other, count-open, status-elsewhere}
 
 -- No bit of the next byte is in.
 no-bits : (k : ℕ) (xs : List Sample) → length xs ≡ 9 * k → 0 ≡ number-from 0 (map (λ x. x .level) (drop (9 * k) xs))

@@ -1,11 +1,11 @@
 -- Looking back over one moment more.
-use mathlib.Core.Path.{_≡_, refl, ap, _∙_}
+use mathlib.Core.Path.{_≡_, ap}
 use mathlib.Core.Bool.{Bool, true, false}
 use mathlib.Core.List.{List, [], _∷_}
 use Rattle.std.specs.declared.option.Option.{Option}
 use Rattle.std.specs.declared.option.Option.the-variants.{Some, None}
 use Prim.Native.Nat.{ℕ, suc}
-use Rattle.rules.specs.Past.{Moment, latest, since, all-of, any-of, count-of}
+use Rattle.rules.specs.Past.{Moment, latest, since, any-of, count-of}
 
 module _ {A : Type 0} (f : Moment → Option A) (m : Moment) (ms : List Moment) where
   pub latest-some : (x : A) → f m ≡ Some x → latest f (m ∷ ms) ≡ Some x

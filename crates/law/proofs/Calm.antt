@@ -1,8 +1,8 @@
 -- Level calls that end no pull and close no write: what the rules say of a history stays, but for the levels.
-use Prim.Native.Nat.{ℕ, zero, suc, _+_, _-_, _*_, _%_, _<_, _≤_}
-use mathlib.Core.Path.{_≡_, refl, sym, ap, _∙_, subst}
-use mathlib.Core.Bool.{Bool, true, false}
-use mathlib.Core.List.{List, [], _∷_}
+use Prim.Native.Nat.{ℕ, _-_, _%_}
+use mathlib.Core.Path.{_≡_, refl, sym, ap, _∙_}
+use mathlib.Core.Bool.{false}
+use mathlib.Core.List.{_∷_}
 use Rattle.std.specs.declared.option.Option.{Option}
 use Rattle.std.specs.declared.option.Option.the-variants.{Some, None}
 use Rattle.std.specs.Options.{valueOr}
@@ -13,13 +13,12 @@ use Rattle.chip.specs.Registers.{section-of}
 use Rattle.chip.specs.Sizes.{register-space, clock-base}
 use Rattle.chip.specs.declared.slaves.Area.{Area}
 use Rattle.chip.specs.declared.slaves.Area.the-variants.{Array, Registers}
-use Rattle.chip.specs.declared.calls.Event.{Event}
 use Rattle.chip.specs.declared.calls.Event.the-variants.{Given}
 use Rattle.chip.specs.declared.registers.Section.{Section}
 use Rattle.chip.specs.declared.registers.Section.the-variants.{Alarm0, Alarm1, Control, Clock, Status}
 use Rattle.chip.specs.declared.wires.Edge.{Edge}
 use Rattle.chip.specs.declared.wires.Levels.{Levels}
-use Rattle.rules.specs.Past.{History, Entry, Outcome, Idle, is-fall, is-start}
+use Rattle.rules.specs.Past.{History, Entry, Idle, is-fall, is-start}
 use Rattle.rules.specs.Wires as wires
 use Rattle.rules.specs.Counter.{counter}
 use Rattle.rules.specs.Stored.{stored}

@@ -1,7 +1,7 @@
 -- What an edge says of the levels before and after it, and of the pull.
-use mathlib.Core.Path.{_≡_, refl, sym, ap, _∙_}
+use mathlib.Core.Path.{_≡_, refl}
 use mathlib.Core.Bool.{Bool, true, false}
-use Rattle.std.proofs.shelf.Tests.{true≢false, false≢true}
+use Rattle.std.proofs.shelf.Tests.{false≢true}
 use Rattle.chip.specs.Wires.{wire, edge-by}
 use Rattle.chip.specs.declared.wires.Edge.{Edge}
 use Rattle.chip.specs.declared.wires.Edge.the-variants.{Start, Stop, Rise, Fall, Still}

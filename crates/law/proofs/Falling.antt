@@ -1,46 +1,34 @@
 -- A fall of SCL: what the rules say of it, by the number of rises.
-use Prim.Native.Nat.{ℕ, zero, suc, _+_, _-_, _*_, _/_, _%_, _<_, _≤_, min}
-use mathlib.Core.Path.{_≡_, refl, sym, ap, _∙_, subst}
-use mathlib.Core.Bool.{Bool, true, false, not, _&&_, cond}
-use mathlib.Core.Logic.{_⊎_, inl, inr, ⊎-elim}
-use mathlib.Core.List.{List, [], _∷_, _++_, map, append-nil, append-assoc}
+use Prim.Native.Nat.{ℕ, _+_, _*_, _/_, _%_}
+use mathlib.Core.Path.{_≡_, refl, ap, _∙_}
+use mathlib.Core.Bool.{Bool, true, false}
+use mathlib.Core.List.{List, _∷_}
 use native.Mathlib.Omega.{arith}
-use lib.Dec.{eqb, ltb, leb}
-use lib.ListN.{length, getD}
-use Rattle.std.proofs.shelf.Lists.{length-push, length-append, getD-at}
-use Rattle.std.proofs.shelf.Tests.{and-left, and-right, and-from, and-parts, both-ways, lt-ltb, le-ltb, lt-leb, le-leb, eq-eqb, ne-eqb, eqb-true, cases-eq, cases-bool, cond-both}
+use lib.ListN.{length}
+use Rattle.std.proofs.shelf.Tests.{eq-eqb, ne-eqb}
 use Rattle.std.specs.declared.option.Option.{Option}
 use Rattle.std.specs.declared.option.Option.the-variants.{Some, None}
 use Rattle.std.specs.Options.{valueOr}
 use Rattle.memory.specs.Model.{Mem}
-use Rattle.chip.specs.Bits.{is-zero-bit}
-use Rattle.chip.specs.Counter.{at-status, next-written, next-read}
-use Rattle.chip.specs.declared.calls.Event.{Event}
 use Rattle.chip.specs.declared.calls.Event.the-variants.{Given}
 use Rattle.chip.specs.declared.registers.Section.{Section}
 use Rattle.chip.specs.declared.registers.Section.the-variants.{Alarm0, Alarm1}
-use Rattle.chip.specs.declared.slaves.Area.{Area}
-use Rattle.chip.specs.declared.slaves.Slave.{Slave}
-use Rattle.chip.specs.declared.wires.Edge.{Edge}
 use Rattle.chip.specs.declared.wires.Edge.the-variants.{Fall}
 use Rattle.chip.specs.declared.wires.Levels.{Levels}
-use Rattle.rules.specs.Past.{History, Entry, Moment, Outcome, Idle, moments, since, any-of, is-start}
-use Rattle.rules.specs.Wires as wires
-use Rattle.rules.specs.Frames.{Sample, in-frame, sampled, ninth, acknowledged, acknowledges, takes, slave, area-written, area-read, address}
-use Rattle.rules.specs.Counter.{counter, asked-on, sends-byte, write-fall, read-fall, fall-by, at-fall}
+use Rattle.rules.specs.Past.{History, Entry, Moment, Idle, moments, since, any-of, is-start}
+use Rattle.rules.specs.Frames.{in-frame, sampled, acknowledges, slave, area-written, area-read}
+use Rattle.rules.specs.Counter.{counter, fall-by, at-fall}
 use Rattle.rules.specs.Latches.{wel}
 use Rattle.rules.specs.Alarms.{flag, sets-flag, matched, matched-since-copy, status-sent, sends-status, copies}
 use Rattle.rules.specs.Stop.{addresses}
-use Rattle.rules.specs.Reads.{byte-sent, sends-zero, pulls-from-fall, pull-at-fall}
-use Rattle.x1226.specs.declared.state.Phase.{Phase}
-use Rattle.x1226.specs.declared.state.Phase.the-variants.{Deaf, Receiving, Acknowledging, Sending, Listening}
+use Rattle.rules.specs.Reads.{sends-zero, pulls-from-fall, pull-at-fall}
 use Rattle.x1226.specs.declared.state.Latches.{Latches}
 use Rattle.x1226.specs.declared.state.Timer.{Timer}
 use Rattle.x1226.specs.declared.state.State.{State}
-use Rattle.x1226.specs.State.{with-levels, with-phase}
+use Rattle.x1226.specs.State.{with-levels}
 use Rattle.x1226.specs.Frame.{pulls}
 use Rattle.law.proofs.Back.{latest-some, latest-none, since-here, since-past, chosen, passed-over}
-use Rattle.law.proofs.Tracks.{scl, half, Holds, Open, copied-at, addressed-at, Silent}
+use Rattle.law.proofs.Tracks.{Holds, Open, copied-at, addressed-at}
 
 -- The entry of a level call at which SCL falls.
 abbrev pub fell : Mem → Levels → History → Entry

@@ -2,23 +2,17 @@
 use Prim.Native.Nat.{ℕ}
 use mathlib.Core.Path.{_≡_, refl, sym, ap, _∙_, subst}
 use mathlib.Core.Bool.{Bool, true, false, cond}
-use mathlib.Core.List.{List, [], _∷_}
+use mathlib.Core.List.{_∷_}
 use lib.Dec.{eqb}
-use Rattle.std.proofs.shelf.Tests.{cases-bool, cond-true, cond-false}
-use mathlib.Core.Logic.{⊎-elim}
-use Rattle.std.specs.declared.option.Option.{Option}
-use Rattle.std.specs.declared.option.Option.the-variants.{Some, None}
 use Rattle.memory.specs.Model.{Mem}
 use Rattle.chip.specs.Wires.{wire, edge-by, edge-between}
-use Rattle.chip.specs.declared.calls.Event.{Event}
 use Rattle.chip.specs.declared.calls.Event.the-variants.{Given}
 use Rattle.chip.specs.declared.calls.Supply.{Supply}
 use Rattle.chip.specs.declared.calls.Supply.the-variants.{Off, Main, Battery}
-use Rattle.chip.specs.declared.refusals.Refusal.{Refusal}
 use Rattle.chip.specs.declared.wires.Edge.{Edge}
 use Rattle.chip.specs.declared.wires.Edge.the-variants.{Start, Stop, Rise, Fall, Still}
 use Rattle.chip.specs.declared.wires.Levels.{Levels}
-use Rattle.rules.specs.Past.{History, Entry, is-start, is-stop, is-fall, refusal-of}
+use Rattle.rules.specs.Past.{History, is-start, is-stop, is-fall, refusal-of}
 use Rattle.rules.specs.Past as past
 use Rattle.rules.specs.Wires as wires
 use Rattle.rules.specs.History.{entry-with, entry-of, outcome-at}
@@ -26,8 +20,8 @@ use Rattle.x1226.specs.declared.state.Phase.{Phase}
 use Rattle.x1226.specs.declared.state.Phase.the-variants.{Deaf, Receiving, Acknowledging, Sending, Listening}
 use Rattle.x1226.specs.declared.state.State.{State}
 use Rattle.x1226.specs.State.{with-levels, with-phase}
-use Rattle.x1226.specs.Frame.{pulls, fallen, fallen-in, started, risen}
-use Rattle.x1226.specs.Stop.{Left, stopped}
+use Rattle.x1226.specs.Frame.{pulls, fallen, fallen-in}
+use Rattle.x1226.specs.Stop.{stopped}
 use Rattle.x1226.specs.Step.{hears, heard, acted, leveled, is-main}
 use Rattle.law.proofs.Edges.{Said-by, start-says, stop-says, rise-says, fall-says, still-says, is-rise, is-still, level-in, wire-free}
 use Rattle.law.proofs.Tracks.{scl, Holds, Follows, Tracks}

@@ -1,23 +1,22 @@
 -- Addresses: how they move inside a page or a section, and which staged place each has.
-use Prim.Native.Nat.{ℕ, zero, suc, _+_, _-_, _*_, _/_, _%_, _<_, _≤_}
+use Prim.Native.Nat.{ℕ, suc, _+_, _-_, _%_, _<_, _≤_}
 use mathlib.Core.Path.{_≡_, refl, sym, ap, _∙_, subst}
-use mathlib.Core.Bool.{Bool, true, false, cond}
-use mathlib.Core.Logic.{_⊎_, inl, inr, ⊎-elim}
-use mathlib.Core.List.{List, [], _∷_}
+use mathlib.Core.Bool.{true, false}
+use mathlib.Core.Logic.{⊎-elim}
 use native.Mathlib.Omega.{arith}
-use lib.Dec.{eqb, ltb}
-use Rattle.std.proofs.shelf.Tests.{lt-ltb, le-ltb, cases-lt, cases-eq, eq-eqb, ne-eqb, eqb-true, eqb-false, cases-bool, both-ways}
+use lib.Dec.{eqb}
+use Rattle.std.proofs.shelf.Tests.{lt-ltb, le-ltb, cases-lt, cases-eq, eq-eqb, ne-eqb}
 use Rattle.std.specs.declared.option.Option.{Option}
 use Rattle.std.specs.declared.option.Option.the-variants.{Some, None}
 use Rattle.chip.specs.Counter.{room-of, address-in, next-written, next-read, next-in-section, at-status, is-status}
-use Rattle.chip.specs.Pages.{page-first, next-in-page, next-in-array}
+use Rattle.chip.specs.Pages.{page-first}
 use Rattle.chip.specs.Places.{place-of}
 use Rattle.chip.specs.Registers.{section-of, first-of, length-of, next-in, next-by, next-register}
 use Rattle.chip.specs.declared.registers.Section.{Section}
 use Rattle.chip.specs.declared.registers.Section.the-variants.{Alarm0, Alarm1, Control, Clock, Status}
 use Rattle.chip.specs.declared.slaves.Area.{Area}
 use Rattle.chip.specs.declared.slaves.Area.the-variants.{Array, Registers}
-use Rattle.rules.specs.Stored.{Span, span-of, section-span, steps-on, place-at}
+use Rattle.rules.specs.Stored.{span-of, section-span, steps-on, place-at}
 use Rattle.x1226.specs.Stop.{address-staged}
 
 -- The section of an address inside a section.

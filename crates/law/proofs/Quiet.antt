@@ -1,26 +1,24 @@
 -- A level call that moves nothing on the wires, and a start.
-use Prim.Native.Nat.{ℕ, zero, suc, _+_, _*_, _<_, _≤_, min}
+use Prim.Native.Nat.{suc, _+_, _*_}
 use mathlib.Core.Path.{_≡_, refl, sym, ap, _∙_, subst}
 use mathlib.Core.Bool.{Bool, true, false}
-use mathlib.Core.Logic.{_⊎_, inl, inr}
-use mathlib.Core.List.{List, [], _∷_}
+use mathlib.Core.Logic.{inl, inr}
+use mathlib.Core.List.{_∷_}
 use native.Mathlib.Omega.{arith}
 use Rattle.std.proofs.shelf.Tests.{both-ways}
 use Rattle.memory.specs.Model.{Mem}
-use Rattle.chip.specs.declared.wires.Edge.{Edge}
 use Rattle.chip.specs.declared.wires.Edge.the-variants.{Start, Still}
 use Rattle.chip.specs.declared.wires.Levels.{Levels}
 use Rattle.rules.specs.Past.{History}
 use Rattle.rules.specs.Wires as wires
-use Rattle.rules.specs.Frames.{in-frame, sampled}
+use Rattle.rules.specs.Frames.{sampled}
 use Rattle.rules.specs.Counter.{counter}
-use Rattle.rules.specs.Reads.{byte-sent}
 use Rattle.x1226.specs.declared.state.Phase.{Phase}
 use Rattle.x1226.specs.declared.state.Phase.the-variants.{Deaf, Receiving, Acknowledging, Sending, Listening}
 use Rattle.x1226.specs.declared.state.State.{State}
 use Rattle.x1226.specs.State.{with-levels, nothing-staged}
 use Rattle.x1226.specs.Frame.{started}
-use Rattle.law.proofs.Tracks.{scl, half, Holds, Open, Taking, Acking, Copied, Sends, Listens, Deafness, Deafness-under, Follows, Tracks}
+use Rattle.law.proofs.Tracks.{scl, half, Open, Copied, Deafness-under, Follows, Tracks}
 use Rattle.law.proofs.Calm.{calm, calm-holds, byte-sent-calm}
 
 -- A frame is open only on a bus that hears.

@@ -1,30 +1,27 @@
 -- A rise of SCL: one sample more.
-use Prim.Native.Nat.{ℕ, zero, suc, _+_, _-_, _*_, _/_, _%_, _<_, _≤_, min}
+use Prim.Native.Nat.{ℕ, zero, suc, _+_, _*_, _/_, _<_, _≤_}
 use mathlib.Core.Path.{_≡_, refl, sym, ap, _∙_, subst}
-use mathlib.Core.Bool.{Bool, true, false, not, _&&_, cond}
-use mathlib.Core.Logic.{_⊎_, inl, inr, ⊎-elim}
-use mathlib.Core.List.{List, [], _∷_, _++_, map, reverse-cons, append-assoc}
+use mathlib.Core.Bool.{Bool, true, false, _&&_, cond}
+use mathlib.Core.Logic.{inl, inr, ⊎-elim}
+use mathlib.Core.List.{List, [], _∷_, _++_, map, reverse-cons}
 use native.Mathlib.Omega.{arith}
 use native.Mathlib.Nat.{add-zero}
 use lib.Dec.{ltb}
-use lib.ListN.{length, getD, drop}
+use lib.ListN.{length, drop}
 use Rattle.std.proofs.shelf.Lists.{length-push, length-append, getD-at}
 use Rattle.std.proofs.shelf.Tests.{and-left, and-right, both-ways, lt-ltb, cases-eq, cond-both}
 use Rattle.std.specs.declared.option.Option.{Option}
 use Rattle.std.specs.declared.option.Option.the-variants.{Some, None}
 use Rattle.memory.specs.Model.{Mem}
 use Rattle.chip.specs.Bits.{shifted}
-use Rattle.chip.specs.Counter.{at-status}
 use Rattle.chip.specs.declared.slaves.Area.{Area}
-use Rattle.chip.specs.declared.slaves.Area.the-variants.{Array, Registers}
 use Rattle.chip.specs.declared.slaves.Slave.{Slave}
 use Rattle.chip.specs.declared.slaves.Slave.the-variants.{ArrayWrite, ArrayRead, RegisterWrite, RegisterRead}
-use Rattle.chip.specs.declared.wires.Edge.{Edge}
 use Rattle.chip.specs.declared.wires.Edge.the-variants.{Rise}
 use Rattle.chip.specs.declared.wires.Levels.{Levels}
 use Rattle.rules.specs.Past.{History, moments, since, all-of, is-start}
 use Rattle.rules.specs.Wires as wires
-use Rattle.rules.specs.Frames.{Sample, no-sample, sample-at, in-frame, sampled, number-from, byte-at, ninth, acknowledged, acknowledges, takes, slave, area-written, area-read}
+use Rattle.rules.specs.Frames.{Sample, no-sample, sample-at, sampled, number-from, byte-at, ninth, acknowledged, takes, slave, area-written, area-read}
 use Rattle.rules.specs.Counter.{counter, asked-on, sends-byte}
 use Rattle.rules.specs.Latches.{wel}
 use Rattle.x1226.specs.declared.state.Phase.{Phase}
@@ -32,9 +29,9 @@ use Rattle.x1226.specs.declared.state.Phase.the-variants.{Deaf, Receiving, Ackn
 use Rattle.x1226.specs.declared.state.State.{State}
 use Rattle.x1226.specs.State.{with-levels, with-phase}
 use Rattle.x1226.specs.Frame.{pulls, phase-risen, risen}
-use Rattle.law.proofs.Tracks.{scl, half, Holds, Open, Taking, Acking, Copied, Sends, Listens, unpulled, Silent, Silent-on, Deafness, Deafness-under, Said, addressed-at, Follows, Tracks}
+use Rattle.law.proofs.Tracks.{scl, half, Open, Taking, Acking, Copied, Sends, Listens, unpulled, Silent, Silent-on, Deafness, Deafness-under, Said, addressed-at, Follows, Tracks}
 use Rattle.law.proofs.Samples.{ninth-more, acknowledged-more, byte-more, asked-more, sends-more, slave-more, takes-more, shift-push, said-more, asked-stops}
-use Rattle.law.proofs.Calm.{calm, calm-holds, calm-counter, byte-sent-calm}
+use Rattle.law.proofs.Calm.{calm, calm-holds, byte-sent-calm}
 
 -- A frame that reads writes nothing.
 pub reads-no-write : (o : Option Slave) (area : Area) → area-read o ≡ Some area → area-written o ≡ None

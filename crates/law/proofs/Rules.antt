@@ -1,25 +1,24 @@
 -- What the rules say at a fall, by what kind of frame it is.
-use Prim.Native.Nat.{ℕ, zero, suc, _+_, _-_, _*_, _/_, _%_, _<_, _≤_}
-use mathlib.Core.Path.{_≡_, refl, sym, ap, _∙_, subst}
-use mathlib.Core.Bool.{Bool, true, false, not, _&&_, cond}
-use mathlib.Core.Logic.{_⊎_, inl, inr, ⊎-elim}
-use mathlib.Core.List.{List, [], _∷_}
+use Prim.Native.Nat.{ℕ, _*_, _/_, _%_, _<_, _≤_}
+use mathlib.Core.Path.{_≡_, refl, ap, _∙_}
+use mathlib.Core.Bool.{true, false, _&&_}
+use mathlib.Core.Logic.{⊎-elim}
+use mathlib.Core.List.{List}
 use native.Mathlib.Omega.{arith}
-use lib.Dec.{eqb, ltb, leb}
+use lib.Dec.{eqb, leb}
 use lib.ListN.{length}
-use Rattle.std.proofs.shelf.Tests.{and-left, and-right, and-from, and-parts, and-cases, both-ways, eq-eqb, ne-eqb, eqb-true, eqb-false, leb-true, le-leb, lt-leb, cases-bool}
+use Rattle.std.proofs.shelf.Tests.{and-left, and-right, and-from, and-parts, eq-eqb, ne-eqb, eqb-true, leb-true, le-leb, cases-bool}
 use Rattle.std.specs.declared.option.Option.{Option}
 use Rattle.std.specs.declared.option.Option.the-variants.{Some, None}
 use Rattle.memory.specs.Model.{Mem}
 use Rattle.chip.specs.Bits.{is-zero-bit}
-use Rattle.chip.specs.Counter.{at-status, next-written, next-read}
+use Rattle.chip.specs.Counter.{next-written, next-read}
 use Rattle.chip.specs.declared.slaves.Area.{Area}
 use Rattle.chip.specs.declared.slaves.Slave.{Slave}
 use Rattle.chip.specs.declared.slaves.Slave.the-variants.{ArrayWrite, ArrayRead, RegisterWrite, RegisterRead}
 use Rattle.rules.specs.Past.{History}
-use Rattle.rules.specs.Frames.{Sample, sampled, ninth, acknowledged, slave, area-written, area-read, address}
-use Rattle.rules.specs.Counter.{counter, asked-on, sends-byte, write-fall, read-fall, fall-by}
-use Rattle.rules.specs.Alarms.{sends-status}
+use Rattle.rules.specs.Frames.{Sample, acknowledged, slave, area-written, area-read, address}
+use Rattle.rules.specs.Counter.{counter, sends-byte, write-fall, read-fall, fall-by}
 use Rattle.rules.specs.Reads.{byte-sent, sends-zero}
 use Rattle.law.proofs.Back.{chosen, passed-over}
 

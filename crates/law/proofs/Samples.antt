@@ -1,22 +1,21 @@
 -- Samples: what a rise more leaves of the bytes already heard.
-use Prim.Native.Nat.{ℕ, zero, suc, _+_, _-_, _*_, _/_, _%_, _^_, _<_, _≤_, min}
+use Prim.Native.Nat.{ℕ, zero, suc, _+_, _*_, _^_, _<_, _≤_}
 use mathlib.Core.Path.{_≡_, refl, sym, ap, _∙_, subst}
-use mathlib.Core.Bool.{Bool, true, false, cond, _&&_, not}
+use mathlib.Core.Bool.{Bool, true, false, cond, not}
 use mathlib.Core.List.{List, [], _∷_, _++_, map}
 use mathlib.Core.Logic.{⊎-elim}
 use native.Mathlib.Omega.{arith}
 use native.Mathlib.Nat.{lt-of-lt-of-le, mul-assoc, mul-le-mul-right, pow-succ', mul-one, one-mul}
 use lib.Pow.{pow-mono}
 use lib.Dec.{eqb}
-use lib.ListN.{length, getD, take, drop}
-use lib.Bits.{bitAnd}
-use Rattle.std.proofs.shelf.Lists.{getD-append-left, drop-append-le, take-append-le, take-all, length-drop, map-append, length-append, getD-at, length-push, length-map}
+use lib.ListN.{length, drop}
+use Rattle.std.proofs.shelf.Lists.{getD-append-left, drop-append-le, take-append-le, take-all, length-drop, map-append, length-map}
 use Rattle.std.proofs.shelf.Tests.{and-left, and-right, cases-eq}
 use Rattle.std.specs.declared.option.Option.{Option}
 use Rattle.std.specs.Options.{isSome}
 use Rattle.std.specs.declared.option.Option.the-variants.{Some, None}
 use Rattle.chip.specs.Bits.{shifted}
-use Rattle.chip.specs.Counter.{at-status, address-in, takes-data}
+use Rattle.chip.specs.Counter.{address-in, takes-data}
 use Rattle.chip.specs.Slaves.{slave-named}
 use Rattle.chip.specs.declared.slaves.Area.{Area}
 use Rattle.chip.specs.declared.slaves.Slave.{Slave}

@@ -1,16 +1,16 @@
 -- A fall while a byte is being sent, and after its ninth level.
-use Prim.Native.Nat.{ℕ, zero, suc, _+_, _-_, _*_, _/_, _%_, _<_, _≤_}
+use Prim.Native.Nat.{ℕ, suc, _+_, _*_, _/_, _%_, _<_}
 use mathlib.Core.Path.{_≡_, refl, sym, ap, _∙_, subst}
 use mathlib.Core.Bool.{Bool, true, false, not, _&&_, cond}
-use mathlib.Core.Logic.{_⊎_, inl, inr, ⊎-elim}
-use mathlib.Core.List.{List, [], _∷_, _++_, map}
+use mathlib.Core.Logic.{⊎-elim}
+use mathlib.Core.List.{_∷_, _++_, map}
 use native.Mathlib.Omega.{arith}
 use native.Mathlib.Nat.{add-zero}
-use lib.Dec.{eqb, ltb}
+use lib.Dec.{eqb}
 use lib.ListN.{length}
-use Rattle.std.proofs.shelf.Tests.{and-left, and-right, and-from, and-parts, both-ways, eq-eqb, ne-eqb, lt-ltb, le-ltb, eqb-true, cases-bool, cases-eq, cases-lt, not-from-false}
+use Rattle.std.proofs.shelf.Tests.{and-left, and-right, and-from, and-parts, both-ways, lt-ltb, le-ltb, eqb-true, cases-bool, cases-eq, cases-lt}
 use Rattle.std.specs.declared.option.Option.{Option}
-use Rattle.std.specs.declared.option.Option.the-variants.{Some, None}
+use Rattle.std.specs.declared.option.Option.the-variants.{Some}
 use Rattle.std.specs.Options.{valueOr}
 use Rattle.memory.specs.Model.{Mem}
 use Rattle.chip.specs.Bits.{is-zero-bit}
@@ -19,20 +19,18 @@ use Rattle.chip.specs.declared.registers.Section.the-variants.{Alarm0, Alarm1}
 use Rattle.chip.specs.declared.slaves.Area.{Area}
 use Rattle.chip.specs.declared.wires.Levels.{Levels}
 use Rattle.rules.specs.Past.{History}
-use Rattle.rules.specs.Wires as wires
-use Rattle.rules.specs.Frames.{Sample, in-frame, sampled, ninth, acknowledged, acknowledges, takes, slave, area-written, area-read}
-use Rattle.rules.specs.Counter.{counter, asked-on, sends-byte, at-fall, fall-by}
+use Rattle.rules.specs.Frames.{in-frame, sampled, ninth, acknowledged, takes, slave, area-written, area-read}
+use Rattle.rules.specs.Counter.{counter, asked-on, sends-byte, at-fall}
 use Rattle.rules.specs.Latches.{wel}
 use Rattle.rules.specs.Clock.{clock}
-use Rattle.rules.specs.Alarms.{flag, matched-since-copy, status-sent, sends-status}
-use Rattle.rules.specs.Reads.{status, byte-sent, copied, pull-at-fall, sends-zero}
-use Rattle.x1226.specs.declared.state.Phase.{Phase}
-use Rattle.x1226.specs.declared.state.Phase.the-variants.{Deaf, Receiving, Acknowledging, Sending, Listening}
+use Rattle.rules.specs.Alarms.{status-sent, sends-status}
+use Rattle.rules.specs.Reads.{status, byte-sent, copied, pull-at-fall}
+use Rattle.x1226.specs.declared.state.Phase.the-variants.{Deaf, Sending, Listening}
 use Rattle.x1226.specs.declared.state.Copies.{Copies}
 use Rattle.x1226.specs.declared.state.State.{State}
 use Rattle.x1226.specs.State.{with-levels, with-phase, with-counter, with-flags}
-use Rattle.x1226.specs.Frame.{pulls, fallen-in, sent-whole, sending, to-send}
-use Rattle.law.proofs.Tracks.{scl, half, Holds, Open, Copied, Sends, Listens, copied-at, unpulled, Silent, Deafness, Follows, Tracks}
+use Rattle.x1226.specs.Frame.{fallen-in, sent-whole, sending, to-send}
+use Rattle.law.proofs.Tracks.{scl, half, Holds, Copied, Sends, Listens, copied-at, unpulled, Silent, Tracks}
 use Rattle.law.proofs.Samples.{slave-more}
 use Rattle.law.proofs.Moves.{status-stays, status-never}
 use Rattle.law.proofs.Rising.{reads-no-write, read-takes-none}

@@ -1,6 +1,6 @@
 -- The byte to send: module and rules agree, since the counter stays below 512.
-use Prim.Native.Nat.{ℕ, zero, suc, _+_, _-_, _*_, _/_, _%_, _<_, _≤_}
-use mathlib.Core.Path.{_≡_, refl, sym, ap, _∙_, subst}
+use Prim.Native.Nat.{ℕ, _+_, _-_, _/_, _%_, _<_}
+use mathlib.Core.Path.{_≡_, refl, ap, _∙_}
 use mathlib.Core.Bool.{Bool, true, false, _&&_}
 use mathlib.Core.List.{List, [], _∷_}
 use native.Mathlib.Omega.{arith}
@@ -8,22 +8,19 @@ use lib.Dec.{eqb, leb}
 use lib.ListN.{length, getD}
 use Rattle.std.specs.declared.option.Option.{Option}
 use Rattle.std.specs.declared.option.Option.the-variants.{Some, None}
-use Rattle.std.specs.Options.{valueOr}
 use Rattle.memory.specs.Model.{Mem}
 use Rattle.calendar.specs.Clock.{byte-of}
 use Rattle.calendar.specs.declared.clock.Clock.{Clock}
-use Rattle.chip.specs.Counter.{room-of, next-written, next-read}
-use Rattle.chip.specs.Places.{place-of}
-use Rattle.chip.specs.Registers.{section-of, first-of, length-of}
+use Rattle.chip.specs.Counter.{next-written, next-read}
+use Rattle.chip.specs.Registers.{section-of}
 use Rattle.chip.specs.Sizes.{clock-base}
 use Rattle.chip.specs.declared.registers.Section.{Section}
 use Rattle.chip.specs.declared.registers.Section.the-variants.{Alarm0, Alarm1, Control, Clock as ClockSection, Status}
 use Rattle.chip.specs.declared.slaves.Area.{Area}
 use Rattle.chip.specs.declared.slaves.Area.the-variants.{Array, Registers}
-use Rattle.rules.specs.Past.{History, Entry, is-fall, leaves-main}
+use Rattle.rules.specs.Past.{History, is-fall, leaves-main}
 use Rattle.rules.specs.Frames.{Sample, in-frame, sampled, slave, area-written, area-read, address, byte-at, acknowledged}
-use Rattle.rules.specs.Counter.{counter, sends-byte, write-fall, read-fall, fall-by, at-fall}
-use Rattle.rules.specs.Stored.{stored}
+use Rattle.rules.specs.Counter.{counter, sends-byte, fall-by, at-fall}
 use Rattle.rules.specs.Clock.{clock}
 use Rattle.chip.specs.Status.{status-byte}
 use Rattle.chip.specs.declared.calls.Supply.{Supply}

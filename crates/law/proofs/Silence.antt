@@ -1,14 +1,14 @@
 -- Silence: why nothing more is acknowledged, sent or closed, and a fall in it.
-use Prim.Native.Nat.{ℕ, zero, suc, _+_, _-_, _*_, _/_, _%_, _<_, _≤_}
+use Prim.Native.Nat.{ℕ, zero, suc, _+_, _*_, _/_, _%_, _<_, _≤_}
 use mathlib.Core.Path.{_≡_, refl, sym, ap, _∙_, subst}
-use mathlib.Core.Bool.{Bool, true, false, not, _&&_, cond}
-use mathlib.Core.Logic.{_⊎_, inl, inr, ⊎-elim}
+use mathlib.Core.Bool.{Bool, true, false, _&&_, cond}
+use mathlib.Core.Logic.{inl, inr, ⊎-elim}
 use mathlib.Core.List.{List, [], _∷_, _++_, map, append-nil, append-assoc}
 use native.Mathlib.Omega.{arith}
 use lib.Dec.{eqb}
-use lib.ListN.{length, getD}
-use Rattle.std.proofs.shelf.Lists.{length-push, length-append, getD-at}
-use Rattle.std.proofs.shelf.Tests.{and-left, and-right, and-parts, both-ways, eq-eqb, ne-eqb, eqb-true, cases-bool, cases-eq}
+use lib.ListN.{length}
+use Rattle.std.proofs.shelf.Lists.{length-append}
+use Rattle.std.proofs.shelf.Tests.{and-left, and-right, ne-eqb, cases-eq}
 use Rattle.std.specs.declared.option.Option.{Option}
 use Rattle.std.specs.declared.option.Option.the-variants.{Some, None}
 use Rattle.memory.specs.Model.{Mem}
@@ -17,19 +17,17 @@ use Rattle.chip.specs.declared.registers.Section.the-variants.{Alarm0, Alarm1}
 use Rattle.chip.specs.declared.slaves.Area.{Area}
 use Rattle.chip.specs.declared.wires.Levels.{Levels}
 use Rattle.rules.specs.Past.{History}
-use Rattle.rules.specs.Wires as wires
-use Rattle.rules.specs.Frames.{Sample, no-sample, in-frame, sampled, ninth, acknowledged, acknowledges, takes, slave, area-written, area-read}
+use Rattle.rules.specs.Frames.{Sample, in-frame, sampled, ninth, acknowledged, takes, slave, area-written, area-read}
 use Rattle.rules.specs.Counter.{counter, asked-on, sends-byte, at-fall}
 use Rattle.rules.specs.Latches.{wel}
 use Rattle.rules.specs.Alarms.{status-sent, sends-status}
 use Rattle.rules.specs.Reads.{pull-at-fall}
 use Rattle.x1226.specs.declared.state.Phase.the-variants.{Deaf}
 use Rattle.x1226.specs.declared.state.State.{State}
-use Rattle.x1226.specs.State.{with-levels, with-phase}
+use Rattle.x1226.specs.State.{with-levels}
 use Rattle.x1226.specs.Frame.{pulls}
-use Rattle.law.proofs.Back.{passed-over}
 use Rattle.law.proofs.Tracks.{scl, Holds, Open, unpulled, Silent, Silent-on, Deafness, Deafness-under, Follows, Tracks}
-use Rattle.law.proofs.Samples.{slave-more, ninth-more, acknowledged-stops}
+use Rattle.law.proofs.Samples.{acknowledged-stops}
 use Rattle.law.proofs.Rising.{reads-no-write, read-takes-none}
 use Rattle.law.proofs.Rules.{none-some, same-some, nothing-sent, count-stays}
 use Rattle.law.proofs.Falling.{fell, flag-kept, fall-holds, opened-still, closed-pull, closed-count, closed-status, pull-eighth, pull-other, count-open, status-elsewhere, status-over}

@@ -1,12 +1,10 @@
 -- Every list of calls: module and memory are what the rules say of its history.
-use Prim.Native.Nat.{ℕ}
 use mathlib.Core.Path.{_≡_, refl, sym, ap, _∙_, subst}
-use mathlib.Core.Bool.{Bool, true, false, cond, not}
+use mathlib.Core.Bool.{Bool, true, false, not}
 use mathlib.Core.List.{List, [], _∷_}
 use lib.ListN.{length}
-use Rattle.std.proofs.shelf.Tests.{cond-true, cond-false}
-use Rattle.std.specs.declared.option.Option.{Option}
-use Rattle.std.specs.declared.option.Option.the-variants.{Some, None}
+use Rattle.std.proofs.shelf.Tests.{cond-true}
+use Rattle.std.specs.declared.option.Option.the-variants.{Some}
 use Rattle.std.specs.declared.result.Result.{Result}
 use Rattle.std.specs.declared.result.Result.the-variants.{Ok, Err}
 use Rattle.memory.specs.Model.{Mem}
@@ -18,16 +16,14 @@ use Rattle.chip.specs.declared.calls.Event.{Event}
 use Rattle.chip.specs.declared.calls.Event.the-variants.{Given, Ticked, Supplied}
 use Rattle.chip.specs.declared.refusals.Refusal.{Refusal}
 use Rattle.chip.specs.declared.refusals.Refusal.the-variants.{Unfit}
-use Rattle.chip.specs.declared.wires.Levels.{Levels}
 use Rattle.rules.specs.Past.{History, refusal-of}
 use Rattle.rules.specs.Wires as wires
 use Rattle.rules.specs.History.{entry-of, outcome-at, extended, history, newest-outcome, answer}
 use Rattle.x1226.specs.declared.state.State.{State}
-use Rattle.x1226.specs.State.{made}
 use Rattle.x1226.specs.Frame.{pulls}
-use Rattle.x1226.specs.Stop.{Left, passed, refused}
+use Rattle.x1226.specs.Stop.{Left, refused}
 use Rattle.x1226.specs.Step.{done, taken, worked, told, left}
-use Rattle.law.proofs.Tracks.{Holds, Tracks}
+use Rattle.law.proofs.Tracks.{Tracks}
 use Rattle.law.proofs.OffMain.{Quiet, quiet}
 use Rattle.law.proofs.Given.{given-tracks}
 use Rattle.law.proofs.Stopping.{stop-tracks}

@@ -1,5 +1,4 @@
 -- A module just made, and a call of supply: the module's step follows the rules.
-use Prim.Native.Nat.{ℕ, zero, suc}
 use mathlib.Core.Path.{_≡_, refl, sym, ap, _∙_}
 use mathlib.Core.Bool.{Bool, true, false}
 use mathlib.Core.Logic.{inl, inr}
@@ -16,13 +15,11 @@ use Rattle.calendar.specs.Next.{after}
 use Rattle.chip.specs.declared.calls.Event.the-variants.{Supplied}
 use Rattle.chip.specs.declared.calls.Supply.{Supply}
 use Rattle.chip.specs.declared.calls.Supply.the-variants.{Off, Main, Battery}
-use Rattle.chip.specs.declared.slaves.Area.{Area}
 use Rattle.chip.specs.declared.wires.Edge.the-variants.{Still}
 use Rattle.rules.specs.Past.{History, Entry, Idle}
 use Rattle.rules.specs.Wires as wires
 use Rattle.rules.specs.Frames.{sampled, takes}
 use Rattle.rules.specs.Latches.{wel, rwel}
-use Rattle.rules.specs.Clock.{clock}
 use Rattle.rules.specs.History.{entry-of}
 use Rattle.x1226.specs.declared.state.Phase.{Phase}
 use Rattle.x1226.specs.declared.state.Phase.the-variants.{Deaf, Receiving, Acknowledging, Sending, Listening}

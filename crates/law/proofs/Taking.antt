@@ -1,15 +1,15 @@
 -- A fall while a byte is being received: after its eighth bit it is acknowledged or met with silence.
-use Prim.Native.Nat.{ℕ, zero, suc, _+_, _-_, _*_, _/_, _%_, _<_, _≤_, min}
+use Prim.Native.Nat.{ℕ, zero, suc, _+_, _*_, _/_, _<_, min}
 use mathlib.Core.Path.{_≡_, refl, sym, ap, _∙_, subst}
-use mathlib.Core.Bool.{Bool, true, false, not, _&&_, cond}
-use mathlib.Core.Logic.{_⊎_, inl, inr, ⊎-elim}
-use mathlib.Core.List.{List, [], _∷_, _++_, map}
+use mathlib.Core.Bool.{Bool, true, false, _&&_, cond}
+use mathlib.Core.Logic.{⊎-elim}
+use mathlib.Core.List.{List, _∷_, _++_, map}
 use native.Mathlib.Omega.{arith}
 use native.Mathlib.Nat.{add-zero}
 use lib.Dec.{eqb, ltb}
-use lib.ListN.{length, getD}
-use Rattle.std.proofs.shelf.Lists.{length-push, length-append, getD-at}
-use Rattle.std.proofs.shelf.Tests.{and-left, and-right, and-parts, both-ways, eq-eqb, ne-eqb, lt-ltb, le-ltb, eqb-true, cases-bool, cases-eq, false≢true}
+use lib.ListN.{length}
+use Rattle.std.proofs.shelf.Lists.{getD-at}
+use Rattle.std.proofs.shelf.Tests.{both-ways, eq-eqb, ne-eqb, le-ltb, cases-bool, cases-eq}
 use Rattle.std.specs.declared.option.Option.{Option}
 use Rattle.std.specs.declared.option.Option.the-variants.{Some, None}
 use Rattle.std.specs.Options.{isSome}
@@ -19,24 +19,22 @@ use Rattle.chip.specs.Counter.{takes-data}
 use Rattle.chip.specs.Slaves.{slave-named}
 use Rattle.chip.specs.declared.registers.Section.the-variants.{Alarm0, Alarm1}
 use Rattle.chip.specs.declared.slaves.Area.{Area}
-use Rattle.chip.specs.declared.slaves.Slave.{Slave}
 use Rattle.chip.specs.declared.wires.Levels.{Levels}
 use Rattle.rules.specs.Past.{History}
-use Rattle.rules.specs.Wires as wires
-use Rattle.rules.specs.Frames.{Sample, no-sample, in-frame, sampled, byte-at, ninth, acknowledged, acknowledges, slave, area-written, area-read, address, takes-after-slave}
+use Rattle.rules.specs.Frames.{Sample, no-sample, in-frame, sampled, byte-at, slave, area-written, area-read, address, takes-after-slave}
 use Rattle.rules.specs.Frames as frames
 use Rattle.rules.specs.Counter.{counter, sends-byte, at-fall}
 use Rattle.rules.specs.Latches.{wel}
 use Rattle.rules.specs.Alarms.{status-sent, sends-status}
-use Rattle.rules.specs.Reads.{pull-at-fall, sends-zero}
+use Rattle.rules.specs.Reads.{pull-at-fall}
 use Rattle.x1226.specs.declared.state.Phase.{Phase}
-use Rattle.x1226.specs.declared.state.Phase.the-variants.{Deaf, Receiving, Acknowledging, Sending, Listening}
+use Rattle.x1226.specs.declared.state.Phase.the-variants.{Deaf, Receiving, Acknowledging}
 use Rattle.x1226.specs.declared.state.Staging.{Staging}
 use Rattle.x1226.specs.declared.state.State.{State}
 use Rattle.x1226.specs.State.{with-levels, with-phase}
 use Rattle.x1226.specs.Frame.{pulls, takes, fallen-in}
-use Rattle.law.proofs.Tracks.{scl, half, Holds, Open, Taking, Acking, Said, addressed-at, copied-at, unpulled, Silent, Silent-on, Deafness, Follows, Tracks}
-use Rattle.law.proofs.Samples.{byte-whole, slave-more, ninth-more}
+use Rattle.law.proofs.Tracks.{scl, half, Holds, Taking, Said, addressed-at, unpulled, Silent, Tracks}
+use Rattle.law.proofs.Samples.{byte-whole, slave-more}
 use Rattle.law.proofs.Rules.{writes-no-read, none-some, nothing-sent, count-stays}
 use Rattle.law.proofs.Silence.{unanswered-silent, silent-from, silent-length, silence-on}
 use Rattle.law.proofs.Falling.{fell, flag-kept, fall-holds, opened-still, copied-stays, addressed-stays, pull-eighth, pull-other, count-open, status-elsewhere, status-over}

@@ -1,5 +1,5 @@
 -- A tick: the module's step follows the rules.
-use Prim.Native.Nat.{ℕ, zero, suc, _-_}
+use Prim.Native.Nat.{ℕ, _-_}
 use mathlib.Core.Path.{_≡_, refl, sym, ap, ap₂, _∙_, subst}
 use mathlib.Core.Bool.{Bool, true, false, not, _&&_, _||_}
 use mathlib.Core.Logic.{inl, inr}
@@ -17,7 +17,6 @@ use Rattle.chip.specs.declared.calls.Supply.{Supply}
 use Rattle.chip.specs.declared.calls.Supply.the-variants.{Off, Main, Battery}
 use Rattle.chip.specs.declared.registers.Section.{Section}
 use Rattle.chip.specs.declared.registers.Section.the-variants.{Alarm0, Alarm1}
-use Rattle.chip.specs.declared.slaves.Area.{Area}
 use Rattle.rules.specs.Past.{History, is-main, is-none}
 use Rattle.rules.specs.Wires as wires
 use Rattle.rules.specs.Counter.{counter}

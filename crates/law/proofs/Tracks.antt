@@ -1,10 +1,9 @@
 -- When a module's state and its memory are what the rules say of a history.
-use Prim.Native.Nat.{ℕ, zero, suc, _+_, _-_, _*_, _/_, _%_, _<_, _≤_, min}
+use Prim.Native.Nat.{ℕ, zero, suc, _+_, _*_, _/_, _%_, _<_, _≤_, min}
 use mathlib.Core.Path.{_≡_}
 use mathlib.Core.Bool.{Bool, true, false, cond}
 use mathlib.Core.Logic.{_⊎_}
 use mathlib.Core.List.{List, [], _∷_, _++_, map}
-use lib.Dec.{eqb}
 use lib.ListN.{length, getD, drop}
 use Rattle.std.specs.declared.option.Option.{Option}
 use Rattle.std.specs.declared.option.Option.the-variants.{Some, None}
@@ -15,11 +14,11 @@ use Rattle.chip.specs.Counter.{at-status}
 use Rattle.chip.specs.Places.{place-of}
 use Rattle.chip.specs.declared.registers.Section.the-variants.{Alarm0, Alarm1}
 use Rattle.chip.specs.declared.slaves.Area.{Area}
-use Rattle.rules.specs.Past.{History, Moment, moments, latest, since, is-start}
+use Rattle.rules.specs.Past.{History, moments, latest, since, is-start}
 use Rattle.rules.specs.Wires as wires
 use Rattle.rules.specs.Frames.{Sample, in-frame, sampled, number-from, byte-at, ninth, acknowledged, acknowledges, takes, slave, area-written, area-read, address, data-byte}
 use Rattle.rules.specs.Counter.{counter, asked-on, sends-byte}
-use Rattle.rules.specs.Stored.{stored, life-left, last-sent, place-at, steps-on, span-of}
+use Rattle.rules.specs.Stored.{stored, life-left, last-sent, steps-on, span-of}
 use Rattle.rules.specs.Latches.{wel, rwel}
 use Rattle.rules.specs.Clock.{rtcf, divider, clock, waiting}
 use Rattle.rules.specs.Alarms.{flag, copies, matched-since-copy}

@@ -1,8 +1,7 @@
 -- The law over every run, from the proof that module and memory are what the rules say.
-use Prim.Native.Nat.{ℕ, zero, suc, _+_, _<_, _≤_}
+use Prim.Native.Nat.{ℕ, suc, _<_, _≤_}
 use mathlib.Core.Path.{_≡_, refl, sym, ap, _∙_, subst}
-use mathlib.Core.Bool.{Bool, true, false, cond, not}
-use mathlib.Core.Logic.{_⊎_, inl, inr, ⊎-elim}
+use mathlib.Core.Bool.{Bool, true, false, not}
 use mathlib.Core.List.{List, [], _∷_, reverse}
 use native.Mathlib.Omega.{arith}
 use lib.Dec.{ltb}
@@ -37,14 +36,14 @@ use Rattle.chip.specs.declared.registers.Section.the-variants.{Alarm0, Alarm1, 
 use Rattle.chip.specs.declared.slaves.Area.{Area}
 use Rattle.chip.specs.declared.slaves.Area.the-variants.{Array, Registers}
 use Rattle.chip.specs.declared.wires.Edge.{Edge}
-use Rattle.rules.specs.Past.{History, Entry, Moment, Write, Outcome, Idle, Refused, Stored, Waits, Status, moments, latest, since, clock-write, lawful-write, is-stop, loses-supply}
+use Rattle.rules.specs.Past.{History, Entry, Moment, Write, Outcome, Idle, Refused, Stored, moments, latest, since, clock-write, lawful-write, is-stop, loses-supply}
 use Rattle.rules.specs.Wires as wires
 use Rattle.rules.specs.Stored.{stored, sent-to, life-left, cost}
 use Rattle.rules.specs.Latches.{rwel}
-use Rattle.rules.specs.Clock.{clock, waiting, taken-at, taken-over, marks-since, is-mark, since-supply}
-use Rattle.rules.specs.Stop.{closes, outcome-of, area-outcome, section-outcome, clock-outcome, waits-or-bad, clock-asked, stored-or-worn, array-outcome, register-outcome}
-use Rattle.rules.specs.History.{entry-of, outcome-at, extended, history, answer}
-use Rattle.rules.specs.Law.{call-at, first, history-at, no-answer, Answers, Exists, Counts, Keeps, sent, sent-by, Law}
+use Rattle.rules.specs.Clock.{waiting, taken-at, taken-over, marks-since, is-mark, since-supply}
+use Rattle.rules.specs.Stop.{closes, outcome-of, area-outcome, section-outcome, waits-or-bad, clock-asked, stored-or-worn}
+use Rattle.rules.specs.History.{outcome-at, extended, history}
+use Rattle.rules.specs.Law.{call-at, first, history-at, no-answer, Answers, Exists, Counts, Keeps, sent, sent-by}
 use Rattle.x1226.specs.declared.state.State.{State}
 use Rattle.x1226.specs.Stop.{Left}
 use Rattle.x1226.specs.State.{made}
@@ -53,7 +52,7 @@ use Rattle.x1226.specs.Step.{left, worked, told, taken}
 use Rattle.x1226.specs.Replay as replay
 use Rattle.x1226.specs.Replay.{Replayed}
 use Rattle.law.specs.Run.{clock-after, bytes-after, Lawful, Unmoved}
-use Rattle.law.proofs.Tracks.{Holds, Tracks}
+use Rattle.law.proofs.Tracks.{Holds}
 use Rattle.law.proofs.Steps.{left-tracks, told-answers}
 use Rattle.law.proofs.Runs.{first-more}
 use Rattle.law.proofs.Recovery.{frees}

@@ -1,7 +1,7 @@
 -- Alarms: what matches at a second mark, the two flags, and what a status read clears.
-use Prim.Native.Nat.{ℕ, _+_, _*_, _/_, _%_}
-use mathlib.Core.Bool.{Bool, true, false, cond, _&&_}
-use mathlib.Core.List.{List, [], _∷_}
+use Prim.Native.Nat.{ℕ, _+_}
+use mathlib.Core.Bool.{Bool, true, false, _&&_}
+use mathlib.Core.List.{List, _∷_}
 use lib.Dec.{eqb}
 use lib.ListN.{length}
 use Rattle.std.specs.declared.option.Option.{Option}
@@ -14,10 +14,9 @@ use Rattle.chip.specs.Counter.{at-status}
 use Rattle.chip.specs.Places.{place-of}
 use Rattle.chip.specs.Registers.{first-of}
 use Rattle.chip.specs.declared.registers.Section.{Section}
-use Rattle.chip.specs.declared.registers.Section.the-variants.{Alarm0, Alarm1}
 use Rattle.chip.specs.declared.slaves.Area.{Area}
-use Rattle.chip.specs.declared.slaves.Area.the-variants.{Array, Registers}
-use Rattle.rules.specs.Past.{History, Moment, moments, latest, since, any-of, is-start, is-fall, loses-supply}
+use Rattle.chip.specs.declared.slaves.Area.the-variants.{Registers}
+use Rattle.rules.specs.Past.{History, Moment, moments, latest, since, any-of, is-fall, loses-supply}
 use Rattle.rules.specs.Frames.{Sample, in-frame, sampled, slave, area-read}
 use Rattle.rules.specs.Stored.{stored}
 use Rattle.rules.specs.Clock.{is-mark, clock}

@@ -1,31 +1,26 @@
 -- The worked cases: what the rules say of lists of calls that a terminal makes, and of a few dates and memories.
-use Prim.Native.Nat.{ℕ, zero, suc, _+_}
+use Prim.Native.Nat.{ℕ, zero, suc}
 use mathlib.Core.Path.{_≡_}
 use mathlib.Core.Bool.{Bool, true, false}
 use mathlib.Core.List.{List, [], _∷_, _++_, map}
-use lib.ListN.{length, replicate}
-use Rattle.std.specs.declared.option.Option.{Option}
+use lib.ListN.{replicate}
 use Rattle.std.specs.declared.option.Option.the-variants.{Some, None}
 use Rattle.std.specs.shelf.Lists.{All}
 use Rattle.memory.specs.Model.{Mem}
 use Rattle.memory.specs.Journal.{journal, blank}
 use Rattle.calendar.specs.Worked.{Holds, worked}
-use Rattle.calendar.specs.declared.clock.Clock.{Clock}
 use Rattle.chip.specs.Places.{place-of}
 use Rattle.chip.specs.Refusals.{report}
 use Rattle.chip.specs.declared.calls.Call.{Call}
 use Rattle.chip.specs.declared.calls.Call.the-variants.{Level}
-use Rattle.chip.specs.declared.refusals.Layer.{Layer}
-use Rattle.chip.specs.declared.refusals.Layer.the-variants.{Bus, Memory}
-use Rattle.chip.specs.declared.refusals.Refusal.{Refusal}
+use Rattle.chip.specs.declared.refusals.Layer.the-variants.{Bus}
 use Rattle.chip.specs.declared.refusals.Refusal.the-variants.{Worn, RwelOff, NotADate, PageLocked}
 use Rattle.chip.specs.declared.registers.Section.the-variants.{Alarm0}
-use Rattle.chip.specs.declared.slaves.Area.{Area}
 use Rattle.chip.specs.declared.slaves.Area.the-variants.{Array, Registers}
 use Rattle.rules.specs.Wires.{wire-level, hears}
 use Rattle.rules.specs.Frames.{sampled, byte-at}
 use Rattle.rules.specs.Stored.{stored, life-left}
-use Rattle.rules.specs.Latches.{wel, rwel}
+use Rattle.rules.specs.Latches.{rwel}
 use Rattle.rules.specs.Alarms.{flag}
 use Rattle.rules.specs.Script.{frame, power-up, start, stop, bytes, byte, bits, pulse, ticks, tick-run, past, last-answer}
 

@@ -1,5 +1,5 @@
 -- The address counter.
-use Prim.Native.Nat.{ℕ, zero, suc, _+_, _-_, _*_, _/_, _%_}
+use Prim.Native.Nat.{ℕ, zero, suc, _/_, _%_}
 use mathlib.Core.Bool.{Bool, true, false, cond, not, _&&_}
 use mathlib.Core.List.{List, [], _∷_}
 use lib.Dec.{eqb, leb}
@@ -8,9 +8,7 @@ use Rattle.std.specs.declared.option.Option.{Option}
 use Rattle.std.specs.declared.option.Option.the-variants.{Some, None}
 use Rattle.chip.specs.Counter.{next-written, next-read, at-status}
 use Rattle.chip.specs.declared.slaves.Area.{Area}
-use Rattle.chip.specs.declared.slaves.Area.the-variants.{Array, Registers}
-use Rattle.chip.specs.declared.wires.Edge.{Edge}
-use Rattle.rules.specs.Past.{History, Entry, is-fall, leaves-main}
+use Rattle.rules.specs.Past.{History, is-fall, leaves-main}
 use Rattle.rules.specs.Frames.{Sample, in-frame, sampled, acknowledged, ninth, slave, area-written, area-read, address}
 
 -- The master asked for more after each of the k bytes sent: it answered each by a low ninth level.

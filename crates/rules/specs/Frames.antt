@@ -1,9 +1,9 @@
 -- Frames: the bits since the last start, the bytes they make, and which bytes are acknowledged.
-use Prim.Native.Nat.{ℕ, zero, suc, _+_, _-_, _*_, _/_, _%_}
-use mathlib.Core.Bool.{Bool, true, false, cond, not, _&&_}
+use Prim.Native.Nat.{ℕ, zero, suc, _+_, _*_}
+use mathlib.Core.Bool.{Bool, true, false, cond, _&&_}
 use mathlib.Core.List.{List, [], _∷_, map, reverse}
-use lib.Dec.{eqb, ltb, leb}
-use lib.ListN.{length, getD, take, drop}
+use lib.Dec.{eqb}
+use lib.ListN.{getD, take, drop}
 use Rattle.std.specs.declared.option.Option.{Option}
 use Rattle.std.specs.declared.option.Option.the-variants.{Some, None}
 use Rattle.std.specs.Options.{valueOr, isSome, mapped}
@@ -15,7 +15,7 @@ use Rattle.chip.specs.declared.slaves.Slave.{Slave}
 use Rattle.chip.specs.declared.slaves.Slave.the-variants.{ArrayWrite, ArrayRead, RegisterWrite, RegisterRead}
 use Rattle.chip.specs.declared.wires.Edge.{Edge}
 use Rattle.chip.specs.declared.wires.Edge.the-variants.{Start, Stop, Rise, Fall, Still}
-use Rattle.rules.specs.Past.{History, Moment, Entry, moments, latest, since, all-of, is-start, rise-level, leaves-main}
+use Rattle.rules.specs.Past.{History, Moment, moments, latest, since, all-of, is-start, rise-level, leaves-main}
 
 -- A start opens a frame; a stop ends it, and so does the end of main supply.
 abbrev pub opens-or-ends : Edge → Bool → Option Bool

@@ -1,5 +1,4 @@
 -- The two latches, WEL and RWEL.
-use Prim.Native.Nat.{ℕ}
 use mathlib.Core.Bool.{Bool, true, false, cond}
 use lib.Dec.{eqb}
 use Rattle.std.specs.declared.option.Option.{Option}
@@ -7,7 +6,7 @@ use Rattle.std.specs.declared.option.Option.the-variants.{Some, None}
 use Rattle.std.specs.Options.{valueOr}
 use Rattle.chip.specs.declared.slaves.Area.{Area}
 use Rattle.chip.specs.declared.slaves.Area.the-variants.{Array, Registers}
-use Rattle.rules.specs.Past.{History, Moment, Outcome, Idle, Refused, Stored, Waits, Status, Write, moments, latest}
+use Rattle.rules.specs.Past.{History, Outcome, Idle, Refused, Stored, Waits, Status, latest}
 use Rattle.rules.specs.Wires.{on-main, since-main}
 
 -- 02h puts WEL on, 00h puts it off; no other byte touches it.

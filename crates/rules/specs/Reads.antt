@@ -1,8 +1,8 @@
 -- Reads: the byte that the module sends, and when it pulls SDA.
-use Prim.Native.Nat.{ℕ, _+_, _-_, _*_, _/_, _%_, _^_}
-use mathlib.Core.Bool.{Bool, true, false, cond, not, _&&_}
-use mathlib.Core.List.{List, [], _∷_}
-use lib.Dec.{eqb, ltb}
+use Prim.Native.Nat.{ℕ, _-_, _/_, _%_}
+use mathlib.Core.Bool.{Bool, true, false}
+use mathlib.Core.List.{List}
+use lib.Dec.{eqb}
 use lib.ListN.{length}
 use Rattle.std.specs.declared.option.Option.{Option}
 use Rattle.std.specs.declared.option.Option.the-variants.{Some, None}
@@ -20,7 +20,7 @@ use Rattle.chip.specs.declared.registers.Section.{Section}
 use Rattle.chip.specs.declared.registers.Section.the-variants.{Alarm0, Alarm1, Control, Clock, Status}
 use Rattle.chip.specs.declared.slaves.Area.{Area}
 use Rattle.chip.specs.declared.slaves.Area.the-variants.{Array, Registers}
-use Rattle.rules.specs.Past.{History, Moment, moments, latest, since, is-start}
+use Rattle.rules.specs.Past.{History, moments, latest, since, is-start}
 use Rattle.rules.specs.Wires.{supply}
 use Rattle.rules.specs.Frames.{Sample, in-frame, sampled, slave, area-read, acknowledges}
 use Rattle.rules.specs.Stored.{stored}

@@ -1,6 +1,6 @@
 -- Scripts: lists of calls for frames, in the order in which a terminal makes them.
-use Prim.Native.Nat.{ℕ, zero, suc, _+_, _-_, _/_, _%_, _^_}
-use mathlib.Core.Bool.{Bool, true, false}
+use Prim.Native.Nat.{ℕ, zero, suc, _/_, _%_, _^_}
+use mathlib.Core.Bool.{true}
 use mathlib.Core.List.{List, [], _∷_, _++_, reverse}
 use lib.ListN.{replicate}
 use Rattle.std.specs.declared.option.Option.the-variants.{None}

@@ -9,9 +9,7 @@ use Rattle.chip.specs.Places.{place-of}
 use Rattle.chip.specs.Sizes.{interrupt-register, second}
 use Rattle.chip.specs.declared.pins.Pin.{Pin}
 use Rattle.chip.specs.declared.pins.Pin.the-variants.{Low, Released, Crystal}
-use Rattle.chip.specs.declared.registers.Section.{Section}
 use Rattle.chip.specs.declared.registers.Section.the-variants.{Alarm0, Alarm1}
-use Rattle.chip.specs.declared.slaves.Area.{Area}
 use Rattle.chip.specs.declared.slaves.Area.the-variants.{Registers}
 use Rattle.rules.specs.Past.{History}
 use Rattle.rules.specs.Wires.{supplied}

@@ -1,9 +1,9 @@
 -- The stop: when it closes a write, and what becomes of the write.
-use Prim.Native.Nat.{ℕ, zero, suc, _+_, _-_, _*_, _/_, _%_}
-use mathlib.Core.Bool.{Bool, true, false, cond, _&&_}
+use Prim.Native.Nat.{ℕ, zero, suc, _-_, _/_, _%_}
+use mathlib.Core.Bool.{Bool, true, false, _&&_}
 use mathlib.Core.List.{List, [], _∷_, _++_, map}
 use lib.Dec.{eqb, ltb, leb}
-use lib.ListN.{length, getD}
+use lib.ListN.{length}
 use Rattle.std.specs.declared.option.Option.{Option}
 use Rattle.std.specs.declared.option.Option.the-variants.{Some, None}
 use Rattle.std.specs.Options.{valueOr}
@@ -14,7 +14,6 @@ use Rattle.chip.specs.Places.{place-of}
 use Rattle.chip.specs.Sizes.{lock-register, status-register}
 use Rattle.chip.specs.Locks.{is-locked}
 use Rattle.chip.specs.Registers.{section-of, joined-with}
-use Rattle.chip.specs.declared.refusals.Refusal.{Refusal}
 use Rattle.chip.specs.declared.refusals.Refusal.the-variants.{Worn, RwelOff, NotADate, PageLocked}
 use Rattle.chip.specs.declared.registers.Section.{Section}
 use Rattle.chip.specs.declared.registers.Section.the-variants.{Alarm0, Alarm1, Control, Clock as ClockSection, Status as StatusSection}

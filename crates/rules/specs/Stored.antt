@@ -1,6 +1,6 @@
 -- Stored bytes: the places and bytes of a write, and what the memory holds after a history.
-use Prim.Native.Nat.{ℕ, zero, suc, _+_, _-_, _*_, _/_, _%_}
-use mathlib.Core.Bool.{Bool, true, false, cond}
+use Prim.Native.Nat.{ℕ, zero, suc, _+_, _-_, _%_}
+use mathlib.Core.Bool.{cond}
 use mathlib.Core.List.{List, [], _∷_}
 use lib.Dec.{eqb}
 use lib.ListN.{length, getD}
@@ -16,7 +16,7 @@ use Rattle.chip.specs.Registers.{section-of, first-of, length-of}
 use Rattle.chip.specs.declared.registers.Section.{Section}
 use Rattle.chip.specs.declared.slaves.Area.{Area}
 use Rattle.chip.specs.declared.slaves.Area.the-variants.{Array, Registers}
-use Rattle.rules.specs.Past.{History, Moment, Write, moments, latest, all-of, lawful-write}
+use Rattle.rules.specs.Past.{History, Write, moments, latest, all-of, lawful-write}
 
 -- The stretch of addresses inside which a write's addresses move: its page or its section.
 pub record Span : Type 0 where

@@ -1,7 +1,7 @@
 -- What a start, a rise and a fall do.
-use Prim.Native.Nat.{ℕ, zero, suc, _+_, _-_, _%_}
+use Prim.Native.Nat.{ℕ, _+_, _-_, _%_}
 use mathlib.Core.Bool.{Bool, true, false, cond}
-use lib.Dec.{eqb, ltb, leb}
+use lib.Dec.{eqb, ltb}
 use lib.ListN.{getD, set}
 use Rattle.std.specs.declared.option.Option.{Option}
 use Rattle.std.specs.declared.option.Option.the-variants.{Some, None}
@@ -24,8 +24,6 @@ use Rattle.chip.specs.declared.slaves.Area.the-variants.{Array, Registers}
 use Rattle.chip.specs.declared.slaves.Slave.{Slave}
 use Rattle.x1226.specs.declared.state.Phase.{Phase}
 use Rattle.x1226.specs.declared.state.Phase.the-variants.{Deaf, Receiving, Acknowledging, Sending, Listening}
-use Rattle.x1226.specs.declared.state.Staging.{Staging}
-use Rattle.x1226.specs.declared.state.Copies.{Copies}
 use Rattle.x1226.specs.declared.state.State.{State}
 use Rattle.x1226.specs.State.{with-phase, with-area, with-high, with-counter, with-staging, with-flags, with-copies, nothing-staged, no-alarms, empty-places}
 

@@ -1,12 +1,11 @@
 -- The state after making, and one field changed at a time.
 use Prim.Native.Nat.{ℕ}
-use mathlib.Core.Bool.{Bool, true, false}
+use mathlib.Core.Bool.{true, false}
 use mathlib.Core.List.{List}
 use lib.ListN.{replicate}
 use Rattle.std.specs.declared.option.Option.{Option}
 use Rattle.std.specs.declared.option.Option.the-variants.{None}
 use Rattle.calendar.specs.Clock.{start-date}
-use Rattle.calendar.specs.declared.clock.Clock.{Clock}
 use Rattle.chip.specs.declared.calls.Supply.{Supply}
 use Rattle.chip.specs.declared.calls.Supply.the-variants.{Off}
 use Rattle.chip.specs.declared.slaves.Area.{Area}

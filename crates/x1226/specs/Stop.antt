@@ -1,7 +1,7 @@
 -- What a stop does.
-use Prim.Native.Nat.{ℕ, zero, suc, _+_, _-_, _*_, _/_, _%_}
+use Prim.Native.Nat.{ℕ, zero, suc, _+_}
 use mathlib.Core.Bool.{Bool, true, false, cond, _&&_}
-use mathlib.Core.List.{List, [], _∷_}
+use mathlib.Core.List.{List}
 use lib.Dec.{eqb, ltb}
 use lib.ListN.{getD}
 use Rattle.std.specs.declared.option.Option.{Option}
@@ -24,8 +24,6 @@ use Rattle.chip.specs.declared.slaves.Area.the-variants.{Array, Registers}
 use Rattle.x1226.specs.declared.state.Phase.{Phase}
 use Rattle.x1226.specs.declared.state.Phase.the-variants.{Deaf, Receiving, Acknowledging, Sending, Listening}
 use Rattle.x1226.specs.declared.state.Latches.{Latches}
-use Rattle.x1226.specs.declared.state.Staging.{Staging}
-use Rattle.x1226.specs.declared.state.Timer.{Timer}
 use Rattle.x1226.specs.declared.state.State.{State}
 use Rattle.x1226.specs.State.{with-phase, with-staging, with-latches, with-cycle, with-timer, nothing-staged}
 
