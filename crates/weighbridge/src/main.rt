@@ -1,4 +1,6 @@
-//! A weighbridge's day over a small journal, the same day over a byte image, and a memory that wears out.
+//! A weighbridge's day over a small journal, the same day over a byte image, a memory that wears out, and a night over the two wires.
+mod wires;
+
 use ledger::LedgerErrorDisplay;
 use ledger::OutcomeDisplay;
 use ledger::Step;
@@ -16,11 +18,15 @@ use memory::factory_bytes;
 use memory::fetch;
 use memory::life_left;
 use std::io;
+use wires::show_night;
 
 /// The words and erasures of the journal: so few that the day fills it.
 const WORDS: usize = 600;
 
 const ERASURES: u32 = 1;
+
+/// The writes that the image is good for at night.
+const NIGHT_LIFE: u32 = 1_000;
 
 /// Works one step, and prints it with the life before and after.
 fn show<M: Memory>(rt: &impl Print, memory: &mut M, step: Step) -> io::Result<()> {
@@ -134,5 +140,8 @@ fn main(rt: LibcRuntime) -> io::Result<()> {
     compare(&rt, &journal, &image)?;
 
     println!(rt, "The journal wears out")?;
-    wear_out(&rt, &mut journal)
+    wear_out(&rt, &mut journal)?;
+
+    let mut image = Image::new(&mut bytes, NIGHT_LIFE);
+    show_night(&rt, &mut image)
 }

@@ -1,0 +1,3 @@
+-- Lemmas that the proofs of the functions cite.
+pub mod Appending
+pub mod Playing
