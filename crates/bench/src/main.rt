@@ -1,4 +1,6 @@
 //! The bench: works a module from a log on standard input, and writes the reply to standard output.
+#![tactic(auto)]
+
 ghost use Rattle.std.specs.Prelude.{◌≤◌, length, IfOk};
 
 use chip::refusals::Refusal;

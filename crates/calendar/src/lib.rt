@@ -1,4 +1,6 @@
 // A calendar for a clock chip: eight clock bytes as a date, one second later, and an alarm's match.
+#![tactic(auto)]
+
 pub mod alarm;
 pub mod clock;
 mod date;

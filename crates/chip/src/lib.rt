@@ -1,4 +1,6 @@
 // The chip's vocabulary: its calls, wires, slave bytes, pages, registers, locks and refusals, as types, tables and small rules.
+#![tactic(auto)]
+
 pub mod bits;
 pub mod calls;
 pub mod counter;

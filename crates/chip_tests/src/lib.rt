@@ -1,4 +1,5 @@
 //! Examples of what the chip's vocabulary and the module answer, proved safe and run.
+#![tactic(auto)]
 
 #[cfg(test)]
 mod modules;

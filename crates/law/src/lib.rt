@@ -1,4 +1,6 @@
 // The law over every run of the module, on the contract of the call that works a list of calls.
+#![tactic(auto)]
+
 ghost use Rattle.std.specs.Prelude.{◌≡◌, min, true, false, length, take};
 ghost use Rattle.law.specs.Run.{Lawful, Unmoved};
 ghost use Rattle.x1226.specs.Replay.{Replayed};

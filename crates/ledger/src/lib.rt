@@ -1,4 +1,6 @@
 //! A weighbridge's ledger over any memory: tare weights of trucks, and weighings not yet billed.
+#![tactic(auto)]
+
 mod book;
 mod day;
 mod error;

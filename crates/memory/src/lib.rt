@@ -1,4 +1,6 @@
 //! What a memory is: four calls, their refusals, two memories, and work over any of them.
+#![tactic(auto)]
+
 ghost use Rattle.std.specs.Prelude.{◌≡◌, true};
 ghost use Rattle.memory.specs.Model.{Mem, Whole, read, claim, write, written};
 

@@ -23,7 +23,7 @@ fn check_run(fit: bool, place: usize, n: usize) -> Result<(), Refusal>
 
 /// The life, as far as a number of 32 bits tells it: a claim above it is refused with the life left.
 pub fn life_left<M: Memory>(memory: &M) -> Result<u32, Refusal>
-    ensures { result ≡ life_answer (holds memory.now) }
+    ensures { result ≡ life_answer (M.holds memory.now) }
 {
     match memory.claim(u32::MAX) {
         Ok(()) => Ok(u32::MAX),
@@ -34,12 +34,12 @@ pub fn life_left<M: Memory>(memory: &M) -> Result<u32, Refusal>
 
 /// Writes a run of bytes that the memory has room and life for.
 fn write_run<M: Memory>(memory: &mut M, place: usize, bytes: &[u8]) -> Result<(), Refusal>
-    requires fit { (holds memory.old).fit ≡ true }
-    requires whole { Whole (holds memory.old) }
+    requires fit { (M.holds memory.old).fit ≡ true }
+    requires whole { Whole (M.holds memory.old) }
     requires room { place + length bytes.now ≤ places }
-    requires life { length bytes.now ≤ (holds memory.old).life }
+    requires life { length bytes.now ≤ (M.holds memory.old).life }
     ensures answer { result ≡ Ok tt }
-    ensures after { holds memory.new ≡ with_run (holds memory.old) place bytes.now }
+    ensures after { M.holds memory.new ≡ with_run (M.holds memory.old) place bytes.now }
 {
     for (i, byte) in bytes.iter().enumerate() {
         memory.write(place + i, *byte)?;
@@ -49,8 +49,8 @@ fn write_run<M: Memory>(memory: &mut M, place: usize, bytes: &[u8]) -> Result<()
 
 /// Stores a run of bytes from a place on, all of it or nothing.
 pub fn store<M: Memory>(memory: &mut M, place: usize, bytes: &[u8]) -> Result<(), Refusal>
-    ensures answer { result ≡ store (holds memory.old) place (length bytes.now) }
-    ensures after { holds memory.new ≡ stored (holds memory.old) place bytes.now }
+    ensures answer { result ≡ store (M.holds memory.old) place (length bytes.now) }
+    ensures after { M.holds memory.new ≡ stored (M.holds memory.old) place bytes.now }
 {
     check_run(memory.is_fit(), place, bytes.len())?;
     memory.claim(bytes.len() as u32)?;
@@ -59,8 +59,8 @@ pub fn store<M: Memory>(memory: &mut M, place: usize, bytes: &[u8]) -> Result<()
 
 /// Reads the bytes from a place on into a buffer, all of it or nothing.
 pub fn fetch<M: Memory>(memory: &M, place: usize, into: &mut [u8]) -> Result<(), Refusal>
-    ensures answer { result ≡ fetch (holds memory.now).fit place (length into.old) }
-    ensures after { into.new ≡ (if is_ok result then run_at (holds memory.now) place (length into.old) else into.old) }
+    ensures answer { result ≡ fetch (M.holds memory.now).fit place (length into.old) }
+    ensures after { into.new ≡ (if is_ok result then run_at (M.holds memory.now) place (length into.old) else into.old) }
 {
     check_run(memory.is_fit(), place, into.len())?;
     for i in 0..into.len() {
@@ -86,9 +86,9 @@ fn one_more(count: usize, made: bool) -> usize
 
 /// Makes a list of writes, one after the other, passing over those that are refused. Answers how many were made.
 pub fn write_each<M: Memory>(memory: &mut M, writes: &[ByteWrite]) -> usize
-    ensures count { result ≡ made (holds memory.old) writes.now }
-    ensures after { holds memory.new ≡ after (holds memory.old) writes.now }
-    ensures spent { result + (holds memory.new).life ≡ (holds memory.old).life }
+    ensures count { result ≡ made (M.holds memory.old) writes.now }
+    ensures after { M.holds memory.new ≡ after (M.holds memory.old) writes.now }
+    ensures spent { result + (M.holds memory.new).life ≡ (M.holds memory.old).life }
 {
     let mut count = 0;
     for write in writes {

@@ -1,4 +1,5 @@
 //! Examples of what the memories and the ledger answer, proved safe and run.
+#![tactic(auto)]
 
 #[cfg(test)]
 mod images;

@@ -1,4 +1,6 @@
 // The rules of the chip over the list of calls (specs/), and the worked cases that follow from them.
+#![tactic(auto)]
+
 ghost use Rattle.std.specs.Prelude.{◌≡◌};
 ghost use Rattle.rules.specs.Cases.{WorkedCases, case_count};
 

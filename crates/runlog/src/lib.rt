@@ -1,4 +1,6 @@
 // Logs: a text of calls that is worked on a module line by line, and the reply to it.
+#![tactic(auto)]
+
 mod calls;
 mod lines;
 mod numbers;

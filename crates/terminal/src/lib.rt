@@ -1,4 +1,6 @@
 // The terminal at the other end of the two wires: scripts of calls, and what it takes off the rows that come back.
+#![tactic(auto)]
+
 mod error;
 mod frames;
 mod rows;

@@ -1,4 +1,6 @@
 //! A weighbridge's day over a small journal, the same day over a byte image, a memory that wears out, and a night over the two wires.
+#![tactic(auto)]
+
 mod wires;
 
 use ledger::{Step, planned};

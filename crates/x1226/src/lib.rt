@@ -1,4 +1,6 @@
 // The module that stands in for the X1226: clock, registers and array behind two wires, over any memory.
+#![tactic(auto)]
+
 mod alarms;
 mod board;
 mod frame;

@@ -10,9 +10,9 @@ loop-write-preserved g c =
     let holds = g.M.Memory.holds in
     let n = c.loop-write.count in
     worked_more (holds c.args.memory.now) (holds c.loop-write.memory) (holds c.write.new.self) c.args.writes.now
-    c.loop-write.write-index n c.one-more-count.result (record { place = 0; byte = 0 })
+    c.loop-write.write-index n c.one_more-count.result (record { place = 0; byte = 0 })
     c.loop-write-test.true c.write.ensures.after
-    (c.one-more-count.ensures ∙ ap (λ made. n + cond made 1 0) (c.is-ok-made.ensures.value ∙ ap is_ok c.write.ensures.answer))
+    (c.one_more-count.ensures ∙ ap (λ made. n + cond made 1 0) (c.is_ok-made.ensures.value ∙ ap is_ok c.write.ensures.answer))
     c.loop-write.invariant
 
 pub returns : goal.returns

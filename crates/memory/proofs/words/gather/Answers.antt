@@ -9,14 +9,14 @@ pub bounds-bytes-record : goal.bounds-bytes-record
 bounds-bytes-record c =
     let is = leading_at is_record c.args.words.now c.loop-i.i 0 (omega (arith, c.requires)) in
     let low = record_low (get_or c.args.words.now c.loop-i.i 0) is in
-    omega (arith, c.of-word-record.ensures.place)
+    omega (arith, c.of_word-record.ensures.place)
 
 pub loop-i-preserved : goal.loop-i-preserved
 loop-i-preserved c =
     let is = leading_at is_record c.args.words.now c.loop-i.i 0 (omega (arith, c.requires)) in
-    let of = c.of-word-record.ensures in (
+    let of = c.of_word-record.ensures in (
       omega arith,
-      gathered_more c.args.words.now c.loop-i.i c.loop-i.bytes c.of-word-record.result.place c.of-word-record.result.byte
+      gathered_more c.args.words.now c.loop-i.i c.loop-i.bytes c.of_word-record.result.place c.of_word-record.result.byte
           c.loop-i-test.true is c.loop-i.invariant.1 of.place of.byte,
     )
 

@@ -25,6 +25,6 @@ returns-in-Some c =
     let self = c.args.self in
     let there = some_if (exists self) (date_of self) c.in-Some.date c.in-Some.ensures in
     record {
-      value = number-told self c.in-Some.date c.number.result c.unwrap-or.result there.0 there.1 c.number.ensures c.unwrap-or.ensures;
+      value = number-told self c.in-Some.date c.number.result c.unwrap_or.result there.0 there.1 c.number.ensures c.unwrap_or.ensures;
       fixes = date_fixed self;
     }

@@ -14,14 +14,14 @@ returns-in-TwentyFourHour-clause-writes g c plain ok =
     let second = figures_are date.time.second _ c.of-second.result refl c.of-second.ensures in
     subst (λ (text : List ℕ). HasWritten g.W.Write.write_str_gives c.args.f.now text c.write.new.self)
     (text_24 date _ _ _ c.in-TwentyFourHour.is hour minute second)
-    (c.write.ensures.shows plain ok)
+    (c.write.ensures.writes plain ok)
 
 pub returns-in-TwelveHour-clause-writes : goal.returns-in-TwelveHour-clause-writes
 returns-in-TwelveHour-clause-writes g c plain ok =
     let date = c.args.self.now in
-    let hour = figures_are c.twelve-hour.result _ c.of-hour-in-TwelveHour.result refl c.of-hour-in-TwelveHour.ensures in
+    let hour = figures_are c.twelve_hour.result _ c.of-hour-in-TwelveHour.result refl c.of-hour-in-TwelveHour.ensures in
     let minute = figures_are date.time.minute _ c.of-minute.result refl c.of-minute.ensures in
     let second = figures_are date.time.second _ c.of-second.result refl c.of-second.ensures in
     subst (λ (text : List ℕ). HasWritten g.W.Write.write_str_gives c.args.f.now text c.write-in-TwelveHour.new.self)
-    (text_12 date _ _ _ _ c.in-TwelveHour.is (hour ∙ ap two c.twelve-hour.ensures) minute second c.half-of-half.ensures)
-    (c.write-in-TwelveHour.ensures.shows plain ok)
+    (text_12 date _ _ _ _ c.in-TwelveHour.is (hour ∙ ap two c.twelve_hour.ensures) minute second c.half_of-half.ensures)
+    (c.write-in-TwelveHour.ensures.writes plain ok)

@@ -13,4 +13,4 @@ returns-clause-writes g c plain ok =
     let date = figures_are day.date _ c.of-date.result refl c.of-date.ensures in
     subst (λ (text : List ℕ). HasWritten g.W.Write.write_str_gives c.args.f.now text c.write.new.self)
     (λ k. century k ++ (year k ++ (45 ∷ (month k ++ (45 ∷ date k)))))
-    (c.write.ensures.shows plain ok)
+    (c.write.ensures.writes plain ok)

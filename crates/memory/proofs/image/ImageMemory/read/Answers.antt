@@ -13,6 +13,6 @@ byte-at-requires c =
 pub returns : goal.returns
 returns c =
     let s = c.args.self.now in
-    let passed = place_passed s.fit c.args.place (sym c.in-ok-check-place.ensures) in
-    ap Ok c.byte-at.ensures
-    ∙ image_read s.cells.bytes.now s.cells.writes c.args.place (sym s.decided ∙ passed.0) passed.1 (omega (arith, c.byte-at.ensures))
+    let passed = place_passed s.fit c.args.place (sym c.in_ok-check_place.ensures) in
+    ap Ok c.byte_at.ensures
+    ∙ image_read s.cells.bytes.now s.cells.writes c.args.place (sym s.decided ∙ passed.0) passed.1 (omega (arith, c.byte_at.ensures))

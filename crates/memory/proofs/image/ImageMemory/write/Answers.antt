@@ -21,7 +21,7 @@ returns-in-err-check-write c =
 pub put-requires : goal.put-requires
 put-requires c =
     let s = c.args.self.now in
-    let ok = allowed (held s.cells) s.fit c.life.result c.args.place s.decided c.life.ensures c.in-ok-check-write.ensures in
+    let ok = allowed (held s.cells) s.fit c.life.result c.args.place s.decided c.life.ensures c.in_ok-check_write.ensures in
     let long = image_long s.cells.bytes.now s.cells.writes ok.fit in
     record { within = omega arith; allowed = image_life s.cells.bytes.now s.cells.writes ok.alive }
 
@@ -35,7 +35,7 @@ invariant-of-self c =
 pub returns : goal.returns
 returns c =
     let s = c.args.self.now in
-    let ok = allowed (held s.cells) s.fit c.life.result c.args.place s.decided c.life.ensures c.in-ok-check-write.ensures in
+    let ok = allowed (held s.cells) s.fit c.life.result c.args.place s.decided c.life.ensures c.in_ok-check_write.ensures in
     record {
       answer = sym ok.passed;
       after = (λ i. image (c.put.ensures.bytes i) (c.put.ensures.writes i))

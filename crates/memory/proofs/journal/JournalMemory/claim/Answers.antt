@@ -5,4 +5,4 @@ use Rattle.memory.proofs.journal.JournalMemory.claim.Goals as goal
 pub returns : goal.returns
 returns c =
     let s = c.args.self.now in
-    claim_answer (held s.log) s.fit c.life.result c.args.n c.check-claim.result s.decided c.life.ensures c.check-claim.ensures
+    claim_answer (held s.log) s.fit c.life.result c.args.n c.check_claim.result s.decided c.life.ensures c.check_claim.ensures

@@ -13,6 +13,6 @@ latest-byte-requires c =
 pub returns : goal.returns
 returns c =
     let s = c.args.self.now in
-    let passed = place_passed s.fit c.args.place (sym c.in-ok-check-place.ensures) in
-    ap Ok (c.latest-byte.ensures ∙ ap (λ n. byte_at (take n s.log.words.now) c.args.place) c.words-used.ensures)
+    let passed = place_passed s.fit c.args.place (sym c.in_ok-check_place.ensures) in
+    ap Ok (c.latest_byte.ensures ∙ ap (λ n. byte_at (take n s.log.words.now) c.args.place) c.words_used.ensures)
     ∙ journal_read s.log.words.now s.log.erasures c.args.place (sym s.decided ∙ passed.0) passed.1

@@ -22,7 +22,7 @@ returns-in-err-check-write c =
 pub put-requires : goal.put-requires
 put-requires c =
     let s = c.args.self.now in
-    let ok = allowed (held s.log) s.fit c.life.result c.args.place s.decided c.life.ensures c.in-ok-check-write.ensures in
+    let ok = allowed (held s.log) s.fit c.life.result c.args.place s.decided c.life.ensures c.in_ok-check_write.ensures in
     record { counted = s.counted; fit = ok.fit; alive = ok.alive; low = ok.low }
 
 pub invariant-of-self : goal.invariant-of-self
@@ -35,7 +35,7 @@ invariant-of-self c =
 pub returns : goal.returns
 returns c =
     let s = c.args.self.now in
-    let ok = allowed (held s.log) s.fit c.life.result c.args.place s.decided c.life.ensures c.in-ok-check-write.ensures in
+    let ok = allowed (held s.log) s.fit c.life.result c.args.place s.decided c.life.ensures c.in_ok-check_write.ensures in
     record {
       answer = sym ok.passed;
       after = (λ i. journal (c.put.ensures.words i) (c.put.ensures.erasures i))
