@@ -3,8 +3,8 @@ use Rattle.std.proofs.Common.{arith, rules}
 use Rattle.calendar.proofs.Lengths.{before_year_le}
 use Rattle.calendar.proofs.day.Day.number.Goals as goal
 
-pub overflow-add-result : goal.overflow-add-result
-overflow-add-result c = search (rules, before_year_le c.args.self.year c.in-ok-before-year.before-year c.in-ok-before-year.ensures)
+pub overflow_add-result : goal.overflow_add-result
+overflow_add-result c = search (rules, before_year_le c.args.self.year c.in_ok-before_year.before_year c.in_ok-before_year.ensures)
 
-pub overflow-add-result-2 : goal.overflow-add-result-2
-overflow-add-result-2 c = search (rules, before_year_le c.args.self.year c.in-ok-before-year.before-year c.in-ok-before-year.ensures)
+pub overflow_add-result-2 : goal.overflow_add-result-2
+overflow_add-result-2 c = search (rules, before_year_le c.args.self.year c.in_ok-before_year.before_year c.in_ok-before_year.ensures)

@@ -5,10 +5,10 @@ use Rattle.memory.proofs.JournalLaws.{journal_read}
 use Rattle.memory.proofs.Rules.{place_passed}
 use Rattle.memory.proofs.journal.JournalMemory.read.Goals as goal
 
-pub latest-byte-requires : goal.latest-byte-requires
-latest-byte-requires c =
+pub latest_byte-requires : goal.latest_byte-requires
+latest_byte-requires c =
     let s = c.args.self.now in
-    omega (arith, c.words-used.ensures, prefix_len-le-length is_record s.log.words.now)
+    omega (arith, c.words_used.ensures, prefix_len-le-length is_record s.log.words.now)
 
 pub returns : goal.returns
 returns c =

@@ -19,10 +19,10 @@ loop-i-preserved c =
       | then-used-i+then-is_record w ↦ record-next w.used-is w.orderly-is w.if-used-i.true (sym w.if-is_record.ensures)
       | else-used-i+then-word w ↦ other-next w.used-is (w.orderly-is ∙ sym (and_right tidy _ (ne_eqb (get_or ws i 0) blank w.if-word.true)))
           (elim w.else-used-i.branch
-          [ else-used-i-via-then-used-i+else-is_record w' ↦ inr (sym w'.if-is-record.ensures) | else-used-i-via-else-used-i w' ↦ inl w'.if-used-i.false ])
+          [ else-used-i-via-then-used-i+else-is_record w' ↦ inr (sym w'.if-is_record.ensures) | else-used-i-via-else-used-i w' ↦ inl w'.if-used-i.false ])
       | else-used-i+else-word w ↦ other-next w.used-is (w.orderly-is ∙ and_blank tidy (get_or ws i 0) w.if-word.false)
           (elim w.else-used-i.branch
-          [ else-used-i-via-then-used-i+else-is_record w' ↦ inr (sym w'.if-is-record.ensures) | else-used-i-via-else-used-i w' ↦ inl w'.if-used-i.false ])
+          [ else-used-i-via-then-used-i+else-is_record w' ↦ inr (sym w'.if-is_record.ensures) | else-used-i-via-else-used-i w' ↦ inl w'.if-used-i.false ])
     ]
 
 pub returns : goal.returns
