@@ -11,7 +11,7 @@ returns g c =
       lawful = λ fit.
           replay_lawful n (g.M.Memory.holds c.args.memory.now) c.args.calls.now c.args.rows.now c.replay.new.rows
           c.replay.result.state (g.M.Memory.holds c.replay.new.memory) few fit
-          (c.is-fit.ensures.whole (c.is-fit.ensures.answer ∙ fit)).sized c.replay.ensures;
+          (c.is_fit.ensures.whole (c.is_fit.ensures.answer ∙ fit)).sized c.replay.ensures;
       replayed = c.replay.ensures;
       unmoved = λ unfit.
           replay_unmoved n (g.M.Memory.holds c.args.memory.now) c.args.calls.now c.args.rows.now c.replay.new.rows

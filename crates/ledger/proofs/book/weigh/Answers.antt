@@ -5,8 +5,8 @@ use Rattle.ledger.proofs.book.weigh.Goals as goal
 pub returns : goal.returns
 returns g c =
     let m = g.M.Memory.holds c.args.memory.now in
-    let kept = c.in-ok-store.ensures in
-    let free = c.in-ok-check-free.ensures in
+    let kept = c.in_ok-store.ensures in
+    let free = c.in_ok-check_free.ensures in
     record {
       answer = weigh_passed m c.args.ticket c.weighing_place.result c.args.load c.encode.result
           (omega arith) free c.weighing_place.ensures c.encode.ensures.bytes kept.answer;

@@ -15,7 +15,7 @@ returns g c =
     let room = c.args.reply.now in
     let after = c.match-values in
     let loan = c.text.new.self.room.ghost_name in
-    let fit : m.fit ≡ true = sym c.if-not-is-fit.ensures.answer in
+    let fit : m.fit ≡ true = sym c.if-not-is_fit.ensures.answer in
     let few : length log ≤ most_log = c.if-log-gt-MOST-LOG.false in
     let wide : least_reply ≤ length room = c.if-reply-lt-LEAST-REPLY.false in
     let start = loan_read _ _ _ _ c.text.ensures in
@@ -23,12 +23,12 @@ returns g c =
     let ended : Ended (log_worked log s m) room loan (view after.reply) after.chip.state (holds after.memory) =
     elim after.branch [
       | in-Some w ↦
-          ended_as (log_worked log s m) room loan (view after.reply) (view w.work-lines.new.reply) after.chip.state
-          w.work-lines.new.chip.state (holds after.memory) (holds w.work-lines.new.memory) (ap view w.reply-is)
+          ended_as (log_worked log s m) room loan (view after.reply) (view w.work_lines.new.reply) after.chip.state
+          w.work_lines.new.chip.state (holds after.memory) (holds w.work_lines.new.memory) (ap view w.reply-is)
           (ap (λ x. x.state) w.chip-is) (ap holds w.memory-is)
-          (ended_values s m log room loan few (view c.text.new.self) names w.in-Some.values.now (view w.work-lines.new.reply)
-          w.work-lines.new.chip.state (holds w.work-lines.new.memory) w.in-Some.ensures.0
-          (omega (arith, w.in-Some.ensures.1)) w.work-lines.ensures)
+          (ended_values s m log room loan few (view c.text.new.self) names w.in-Some.values.now (view w.work_lines.new.reply)
+          w.work_lines.new.chip.state (holds w.work_lines.new.memory) w.in-Some.ensures.0
+          (omega (arith, w.in-Some.ensures.1)) w.work_lines.ensures)
       | in-None w ↦
           ended_as (log_worked log s m) room loan (view after.reply) (view w.row.new.self) after.chip.state s (holds after.memory) m
           (ap view w.reply-is) (ap (λ x. x.state) w.chip-is) (ap holds w.memory-is)

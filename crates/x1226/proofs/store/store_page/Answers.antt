@@ -7,7 +7,7 @@ pub returns : goal.returns
 returns g c =
     let staged = c.args.staged.now in
     let m = g.M.Memory.holds c.args.memory.now in
-    let same = page_open staged m (ap (λ bl. is_locked bl staged.address) (sym c.lock_byte.ensures) ∙ sym c.is_locked.ensures ∙ c.if-is-locked.false) in
+    let same = page_open staged m (ap (λ bl. is_locked bl staged.address) (sym c.lock_byte.ensures) ∙ sym c.is_locked.ensures ∙ c.if-is_locked.false) in
     record {
       answer = c.store.ensures.answer ∙ ap (λ r. r.answer) (sym same);
       after = c.store.ensures.after ∙ ap (λ r. r.mem) (sym same);

@@ -30,7 +30,7 @@ invariant_of-self c =
     let s = c.args.self.now in
     let ok = allowed (held s.cells) s.fit c.life.result c.args.place s.decided c.life.ensures c.in_ok-check_write.ensures in
     let still = image_fit_less s.cells.bytes.now s.cells.writes c.args.place c.args.byte ok.fit in
-    (s.decided ∙ ok.fit ∙ sym still ∙ sym (λ i. image_fit (c.put.ensures.bytes i) (c.put.ensures.writes i)), tt)
+    record { decided = s.decided ∙ ok.fit ∙ sym still ∙ sym (λ i. image_fit (c.put.ensures.bytes i) (c.put.ensures.writes i)) }
 
 pub returns : goal.returns
 returns c =

@@ -30,7 +30,10 @@ invariant_of-self c =
     let s = c.args.self.now in
     let ok = allowed (held s.log) s.fit c.life.result c.args.place s.decided c.life.ensures c.in_ok-check_write.ensures in
     let still = words_after_fit s.log.words.now s.log.erasures ok.fit ok.alive c.args.place c.args.byte ok.low (omega arith) in
-    (c.put.ensures.used, (s.decided ∙ ok.fit ∙ sym still ∙ sym (λ i. journal_fit (c.put.ensures.words i) (c.put.ensures.erasures i)), tt))
+    record {
+      counted = c.put.ensures.used;
+      decided = s.decided ∙ ok.fit ∙ sym still ∙ sym (λ i. journal_fit (c.put.ensures.words i) (c.put.ensures.erasures i));
+    }
 
 pub returns : goal.returns
 returns c =

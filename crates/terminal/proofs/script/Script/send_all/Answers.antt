@@ -7,7 +7,7 @@ pub loop-byte-preserved : goal.loop-byte-preserved
 loop-byte-preserved c =
     sending_more (vec_items c.loop-byte.self.calls) (vec_items c.send.new.self.calls)
     (vec_items c.args.self.now.calls ++ all_sent c.args.bytes.now) c.args.bytes.now c.loop-byte.byte-index
-    c.loop-byte-test.true c.in-ok-send.ensures c.loop-byte.invariant
+    c.loop-byte-test.true c.in_ok-send.ensures c.loop-byte.invariant
 
 pub returns : goal.returns
 returns c =
