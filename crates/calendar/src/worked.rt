@@ -1,7 +1,7 @@
 // Worked cases: dates at an edge, and what the clock shows a second later.
 ghost use Rattle.std.specs.Prelude.{◌≡◌};
 ghost use Rattle.calendar.specs.Worked.{Holds, case_of, worked};
-ghost use Rattle.std.specs.List.{AllByRecursion as All};
+ghost use Rattle.std.specs.List.{AllByRecursion};
 
 use crate::clock::Clock;
 
@@ -28,7 +28,7 @@ impl Case {
 // Turns of the day, the month, the year and the calendar in both hour forms, and a date that does not exist.
 pub fn worked_cases() -> [Case; 7]
     ensures value { result ≡ worked }
-    ensures hold { All Holds worked }
+    ensures hold { AllByRecursion Holds worked }
 {
     [
         // 1999-12-31 23:59:59 goes to 2000.

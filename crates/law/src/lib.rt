@@ -16,9 +16,9 @@ use x1226::{Module, replay};
 // lawful write which last sends its place another byte; ten pulses with SDA released free the wire, and a start is then heard. Module
 // and memory at the end are those of the calls one after the other (`replayed`). An unfit memory refuses every call (`unmoved`).
 pub fn run<M: Memory>(memory: &mut M, calls: &[Call], rows: &mut [Answer]) -> Module
-    ensures lawful { (holds memory.old).fit ≡ true → Lawful (holds memory.old) (take (min (length calls.now) (length rows.old)) calls.now) rows.new }
-    ensures replayed { Replayed (min (length calls.now) (length rows.old)) (holds memory.old) calls.now rows.old rows.new result.state (holds memory.new) }
-    ensures unmoved { (holds memory.old).fit ≡ false → Unmoved (min (length calls.now) (length rows.old)) (holds memory.old) rows.new result.state (holds memory.new) }
+    ensures lawful { (M.holds memory.old).fit ≡ true → Lawful (M.holds memory.old) (take (min (length calls.now) (length rows.old)) calls.now) rows.new }
+    ensures replayed { Replayed (min (length calls.now) (length rows.old)) (M.holds memory.old) calls.now rows.old rows.new result.state (M.holds memory.new) }
+    ensures unmoved { (M.holds memory.old).fit ≡ false → Unmoved (min (length calls.now) (length rows.old)) (M.holds memory.old) rows.new result.state (M.holds memory.new) }
 {
     // A fit memory shows that it has one byte for each place.
     let _ = memory.is_fit();

@@ -43,7 +43,7 @@ fn weighing_place(ticket: u16) -> usize
 
 /// The tare of a truck.
 pub fn tare<M: Memory>(memory: &M, truck: u16) -> Result<Tare, LedgerError>
-    ensures { result ≡ tare_answer (holds memory.now) truck }
+    ensures { result ≡ tare_answer (M.holds memory.now) truck }
 {
     if truck >= TRUCKS {
         return Err(LedgerError::NoTruck);
@@ -55,7 +55,7 @@ pub fn tare<M: Memory>(memory: &M, truck: u16) -> Result<Tare, LedgerError>
 
 /// The weighing that a ticket holds, if it holds one that is not yet billed.
 pub fn weighing<M: Memory>(memory: &M, ticket: u16) -> Result<Option<Weighing>, LedgerError>
-    ensures { result ≡ weighing_answer (holds memory.now) ticket }
+    ensures { result ≡ weighing_answer (M.holds memory.now) ticket }
 {
     if ticket >= TICKETS {
         return Err(LedgerError::NoTicket);
@@ -67,8 +67,8 @@ pub fn weighing<M: Memory>(memory: &M, ticket: u16) -> Result<Option<Weighing>, 
 
 /// Sets the tare of a truck, over the one it had.
 pub fn set_tare<M: Memory>(memory: &mut M, truck: u16, tare: Tare) -> Result<(), LedgerError>
-    ensures answer { result ≡ set_tare_answer (holds memory.old) truck }
-    ensures after { holds memory.new ≡ set_tare_after (holds memory.old) truck tare }
+    ensures answer { result ≡ set_tare_answer (M.holds memory.old) truck }
+    ensures after { M.holds memory.new ≡ set_tare_after (M.holds memory.old) truck tare }
 {
     if truck >= TRUCKS {
         return Err(LedgerError::NoTruck);
@@ -79,7 +79,7 @@ pub fn set_tare<M: Memory>(memory: &mut M, truck: u16, tare: Tare) -> Result<(),
 
 /// Refuses a ticket that holds a weighing not yet billed.
 fn check_free<M: Memory>(memory: &M, ticket: u16) -> Result<(), LedgerError>
-    ensures { result ≡ free_answer (holds memory.now) ticket }
+    ensures { result ≡ free_answer (M.holds memory.now) ticket }
 {
     if weighing(memory, ticket)?.is_some() {
         return Err(LedgerError::NotBilled);
@@ -89,8 +89,8 @@ fn check_free<M: Memory>(memory: &M, ticket: u16) -> Result<(), LedgerError>
 
 /// Enters a weighing on a free ticket.
 pub fn weigh<M: Memory>(memory: &mut M, ticket: u16, load: Weighing) -> Result<(), LedgerError>
-    ensures answer { result ≡ weigh_answer (holds memory.old) ticket load.truck }
-    ensures after { holds memory.new ≡ weigh_after (holds memory.old) ticket load }
+    ensures answer { result ≡ weigh_answer (M.holds memory.old) ticket load.truck }
+    ensures after { M.holds memory.new ≡ weigh_after (M.holds memory.old) ticket load }
 {
     if load.truck >= TRUCKS {
         return Err(LedgerError::NoTruck);
@@ -118,7 +118,7 @@ fn invoice_for(load: Weighing, tare: Tare) -> Result<Invoice, LedgerError>
 
 /// What the weighing of a ticket will be billed.
 pub fn due<M: Memory>(memory: &M, ticket: u16) -> Result<Invoice, LedgerError>
-    ensures { result ≡ due (holds memory.now) ticket }
+    ensures { result ≡ due (M.holds memory.now) ticket }
 {
     let Some(load) = weighing(memory, ticket)? else {
         return Err(LedgerError::NotOpen);
@@ -129,8 +129,8 @@ pub fn due<M: Memory>(memory: &M, ticket: u16) -> Result<Invoice, LedgerError>
 
 /// Bills the weighing of a ticket, and frees the ticket for the next.
 pub fn bill<M: Memory>(memory: &mut M, ticket: u16) -> Result<Invoice, LedgerError>
-    ensures answer { result ≡ bill_answer (holds memory.old) ticket }
-    ensures after { holds memory.new ≡ bill_after (holds memory.old) ticket }
+    ensures answer { result ≡ bill_answer (M.holds memory.old) ticket }
+    ensures after { M.holds memory.new ≡ bill_after (M.holds memory.old) ticket }
 {
     let bill = due(memory, ticket)?;
     memory.write(weighing_place(ticket), BILLED)?;

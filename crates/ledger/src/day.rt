@@ -33,8 +33,8 @@ pub enum Outcome {
 impl Step {
     /// Works this step over a memory.
     pub fn work<M: Memory>(self, memory: &mut M) -> Result<Outcome, LedgerError>
-        ensures answer { result ≡ step_answer (holds memory.old) self }
-        ensures after { holds memory.new ≡ step_after (holds memory.old) self }
+        ensures answer { result ≡ step_answer (M.holds memory.old) self }
+        ensures after { M.holds memory.new ≡ step_after (M.holds memory.old) self }
     {
         match self {
             Step::SetTare { truck, weight } => {

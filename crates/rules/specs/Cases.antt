@@ -1,6 +1,6 @@
 -- The worked cases: what the rules say of lists of calls that a terminal makes, and of a few dates and memories.
 use Rattle.std.specs.Prelude.{◌≡◌, ℕ, zero, suc, Bool, true, false, List, [], ◌∷◌, ◌++◌, map, replicate, Some, None}
-use Rattle.std.specs.List.{AllByRecursion as All}
+use Rattle.std.specs.List.{AllByRecursion}
 use Rattle.memory.specs.Model.{Mem}
 use Rattle.memory.specs.Journal.{journal, blank}
 use Rattle.calendar.specs.Worked.{Holds, worked}
@@ -96,7 +96,7 @@ case_count = 25
 pub record WorkedCases : Type 0 where
   -- at 23:59:59, 1999-12-31 goes to 2000, and 1900-02-28 to 1 March; hour 11h at 11:59:59 goes to 32h, and 31h to 12h of the next day;
   -- 30 February is bad at 33h
-  pub dates : All Holds worked
+  pub dates : AllByRecursion Holds worked
   -- 533 blank words with no erasure have life 533
   pub blank_journal : (journal (replicate 533 blank) 0).life ≡ 533
   -- AEh 00h 40h 5Ah with WEL on and 37 rises stores 5Ah at 64

@@ -79,9 +79,9 @@ impl LineCall {
 
     // Makes the calls of a line, and answers what a board is told after the last of them.
     pub fn work<M: Memory>(self, chip: &mut Module, memory: &mut M) -> Answer
-        ensures state { chip.new.state ≡ (left_from chip.old.state (holds memory.old) (calls_of self)).state }
-        ensures mem { holds memory.new ≡ (left_from chip.old.state (holds memory.old) (calls_of self)).mem }
-        ensures answer { result ≡ told (left_from chip.old.state (holds memory.old) (calls_of self)) }
+        ensures state { chip.new.state ≡ (left_from chip.old.state (M.holds memory.old) (calls_of self)).state }
+        ensures mem { M.holds memory.new ≡ (left_from chip.old.state (M.holds memory.old) (calls_of self)).mem }
+        ensures answer { result ≡ told (left_from chip.old.state (M.holds memory.old) (calls_of self)) }
     {
         match self {
             LineCall::Level { scl, sda } => chip.work(memory, Call::Level { scl, sda }),
@@ -93,9 +93,9 @@ impl LineCall {
 
 // Makes so many ticks.
 fn tick<M: Memory>(chip: &mut Module, memory: &mut M, count: u16) -> Answer
-    ensures state { chip.new.state ≡ (left_from chip.old.state (holds memory.old) (replicate count Tick)).state }
-    ensures mem { holds memory.new ≡ (left_from chip.old.state (holds memory.old) (replicate count Tick)).mem }
-    ensures answer { result ≡ told (left_from chip.old.state (holds memory.old) (replicate count Tick)) }
+    ensures state { chip.new.state ≡ (left_from chip.old.state (M.holds memory.old) (replicate count Tick)).state }
+    ensures mem { M.holds memory.new ≡ (left_from chip.old.state (M.holds memory.old) (replicate count Tick)).mem }
+    ensures answer { result ≡ told (left_from chip.old.state (M.holds memory.old) (replicate count Tick)) }
 {
     let mut answer = Answer {
         sda: !chip.pulls(),

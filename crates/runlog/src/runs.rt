@@ -65,11 +65,11 @@ fn work_line<M: Memory>(
     number: u16,
     line: &[u8],
 ) -> bool
-    ensures goes_on { result ≡ (line_worked number line.now chip.old.state (holds memory.old)).goes-on }
-    ensures state { chip.new.state ≡ (line_worked number line.now chip.old.state (holds memory.old)).state }
-    ensures mem { holds memory.new ≡ (line_worked number line.now chip.old.state (holds memory.old)).mem }
-    ensures written { view reply.new ≡ appended (row_text (line_worked number line.now chip.old.state (holds memory.old)).row) (view reply.old) }
-    ensures small { Small (line_worked number line.now chip.old.state (holds memory.old)).row }
+    ensures goes_on { result ≡ (line_worked number line.now chip.old.state (M.holds memory.old)).goes-on }
+    ensures state { chip.new.state ≡ (line_worked number line.now chip.old.state (M.holds memory.old)).state }
+    ensures mem { M.holds memory.new ≡ (line_worked number line.now chip.old.state (M.holds memory.old)).mem }
+    ensures written { view reply.new ≡ appended (row_text (line_worked number line.now chip.old.state (M.holds memory.old)).row) (view reply.old) }
+    ensures small { Small (line_worked number line.now chip.old.state (M.holds memory.old)).row }
 {
     let Some(call) = LineCall::read(line) else {
         reply.row(refused_row(number, chip, Refusal::Unreadable));
@@ -83,7 +83,7 @@ fn work_line<M: Memory>(
 // Works value lines from line 2 on, up to the first that cannot be read.
 fn work_lines<M: Memory>(chip: &mut Module, memory: &mut M, reply: &mut Reply, values: &[u8])
     requires { length values.now ≤ 8179 }
-    ensures { Finished (lines_worked 2 (lines values.now) chip.old.state (holds memory.old)) values.now (view reply.old) (view reply.new) chip.new.state (holds memory.new) }
+    ensures { Finished (lines_worked 2 (lines values.now) chip.old.state (M.holds memory.old)) values.now (view reply.old) (view reply.new) chip.new.state (M.holds memory.new) }
 {
     let mut rest = values;
     let mut number = 2;
@@ -107,10 +107,10 @@ pub fn run_log<M: Memory>(
     log: &[u8],
     reply: &mut [u8],
 ) -> Result<usize, Refusal>
-    ensures answer { result ≡ (run_log chip.old.state (holds memory.old) log.now reply.old).answer }
-    ensures reply { reply.new ≡ (run_log chip.old.state (holds memory.old) log.now reply.old).reply }
-    ensures state { chip.new.state ≡ (run_log chip.old.state (holds memory.old) log.now reply.old).state }
-    ensures mem { holds memory.new ≡ (run_log chip.old.state (holds memory.old) log.now reply.old).mem }
+    ensures answer { result ≡ (run_log chip.old.state (M.holds memory.old) log.now reply.old).answer }
+    ensures reply { reply.new ≡ (run_log chip.old.state (M.holds memory.old) log.now reply.old).reply }
+    ensures state { chip.new.state ≡ (run_log chip.old.state (M.holds memory.old) log.now reply.old).state }
+    ensures mem { M.holds memory.new ≡ (run_log chip.old.state (M.holds memory.old) log.now reply.old).mem }
 {
     if !memory.is_fit() {
         return Err(Refusal::Unfit);

@@ -22,7 +22,7 @@ pub struct Rows {
 impl Rows {
     // Works a script on a module over a memory. Over a fit memory the whole law of a run holds of the script and its rows.
     pub fn of<M: Memory>(heap: Global, script: &Script, memory: &mut M) -> Result<Rows, AllocError>
-        ensures lawful { MatchResult result (λ rows. ((holds memory.old).fit ≡ true → Lawful (holds memory.old) script.now.calls.items rows.answers.items)) (λ _. holds memory.new ≡ holds memory.old) }
+        ensures lawful { MatchResult result (λ rows. ((M.holds memory.old).fit ≡ true → Lawful (M.holds memory.old) script.now.calls.items rows.answers.items)) (λ _. M.holds memory.new ≡ M.holds memory.old) }
     {
         let released = Answer {
             sda: true,

@@ -15,17 +15,17 @@ use memory::Memory;
 
 // Byte `k` of an alarm, as stored.
 fn alarm_byte<M: Memory>(memory: &M, section: Section, k: u16) -> u8
-    requires ready { Ready (holds memory.now) }
+    requires ready { Ready (M.holds memory.now) }
     requires within { k < 8 }
-    ensures { result ≡ alarm_byte (holds memory.now) section k }
+    ensures { result ≡ alarm_byte (M.holds memory.now) section k }
 {
     stored_byte(memory, place_of(Area::Registers, section.first() + k))
 }
 
 // The eight bytes of an alarm, as stored.
 fn alarm<M: Memory>(memory: &M, section: Section) -> Alarm
-    requires { Ready (holds memory.now) }
-    ensures { result ≡ alarm (holds memory.now) section }
+    requires { Ready (M.holds memory.now) }
+    ensures { result ≡ alarm (M.holds memory.now) section }
 {
     Alarm {
         seconds: alarm_byte(memory, section, 0),
@@ -52,8 +52,8 @@ impl Alarms {
 
     // The alarms that match a date shown.
     pub fn matching<M: Memory>(memory: &M, clock: Clock) -> Alarms
-        requires { Ready (holds memory.now) }
-        ensures { result ≡ matching (holds memory.now) clock }
+        requires { Ready (M.holds memory.now) }
+        ensures { result ≡ matching (M.holds memory.now) clock }
     {
         Alarms {
             first: alarm(memory, Section::Alarm0).matches(clock),

@@ -43,9 +43,9 @@ impl Module {
 
     // Takes a call: an unfit memory is refused first, then numbers out of range.
     fn take<M: Memory>(&mut self, memory: &mut M, call: Call) -> Result<(), Refusal>
-        ensures state { self.new.state ≡ (worked call self.old.state (holds memory.old)).state }
-        ensures mem { holds memory.new ≡ (worked call self.old.state (holds memory.old)).mem }
-        ensures answer { result ≡ verdict (worked call self.old.state (holds memory.old)).refusal }
+        ensures state { self.new.state ≡ (worked call self.old.state (M.holds memory.old)).state }
+        ensures mem { M.holds memory.new ≡ (worked call self.old.state (M.holds memory.old)).mem }
+        ensures answer { result ≡ verdict (worked call self.old.state (M.holds memory.old)).refusal }
     {
         if !memory.is_fit() {
             return Err(Refusal::Unfit);
@@ -65,9 +65,9 @@ impl Module {
 
     // Takes the master's levels, 0 or 1 each, and answers the level that the module leaves on SDA: low where it pulls.
     pub fn level<M: Memory>(&mut self, memory: &mut M, scl: u16, sda: u16) -> Result<bool, Refusal>
-        ensures state { self.new.state ≡ (worked (Level scl sda) self.old.state (holds memory.old)).state }
-        ensures mem { holds memory.new ≡ (worked (Level scl sda) self.old.state (holds memory.old)).mem }
-        ensures answer { result ≡ level_answer (worked (Level scl sda) self.old.state (holds memory.old)) }
+        ensures state { self.new.state ≡ (worked (Level scl sda) self.old.state (M.holds memory.old)).state }
+        ensures mem { M.holds memory.new ≡ (worked (Level scl sda) self.old.state (M.holds memory.old)).mem }
+        ensures answer { result ≡ level_answer (worked (Level scl sda) self.old.state (M.holds memory.old)) }
     {
         self.take(memory, Call::Level { scl, sda })?;
         Ok(!self.pulls())
@@ -75,27 +75,27 @@ impl Module {
 
     // Takes a tick of the 32,768 Hz crystal.
     pub fn tick<M: Memory>(&mut self, memory: &mut M) -> Result<(), Refusal>
-        ensures state { self.new.state ≡ (worked Tick self.old.state (holds memory.old)).state }
-        ensures mem { holds memory.new ≡ (worked Tick self.old.state (holds memory.old)).mem }
-        ensures answer { result ≡ verdict (worked Tick self.old.state (holds memory.old)).refusal }
+        ensures state { self.new.state ≡ (worked Tick self.old.state (M.holds memory.old)).state }
+        ensures mem { M.holds memory.new ≡ (worked Tick self.old.state (M.holds memory.old)).mem }
+        ensures answer { result ≡ verdict (worked Tick self.old.state (M.holds memory.old)).refusal }
     {
         self.take(memory, Call::Tick)
     }
 
     // Takes a supply: 0 none, 1 main, 2 battery.
     pub fn supply<M: Memory>(&mut self, memory: &mut M, which: u16) -> Result<(), Refusal>
-        ensures state { self.new.state ≡ (worked (SupplyCall which) self.old.state (holds memory.old)).state }
-        ensures mem { holds memory.new ≡ (worked (SupplyCall which) self.old.state (holds memory.old)).mem }
-        ensures answer { result ≡ verdict (worked (SupplyCall which) self.old.state (holds memory.old)).refusal }
+        ensures state { self.new.state ≡ (worked (SupplyCall which) self.old.state (M.holds memory.old)).state }
+        ensures mem { M.holds memory.new ≡ (worked (SupplyCall which) self.old.state (M.holds memory.old)).mem }
+        ensures answer { result ≡ verdict (worked (SupplyCall which) self.old.state (M.holds memory.old)).refusal }
     {
         self.take(memory, Call::Supply { which })
     }
 
     // Works any call, and answers what a board is told after it.
     pub fn work<M: Memory>(&mut self, memory: &mut M, call: Call) -> Answer
-        ensures state { self.new.state ≡ (worked call self.old.state (holds memory.old)).state }
-        ensures mem { holds memory.new ≡ (worked call self.old.state (holds memory.old)).mem }
-        ensures answer { result ≡ told (worked call self.old.state (holds memory.old)) }
+        ensures state { self.new.state ≡ (worked call self.old.state (M.holds memory.old)).state }
+        ensures mem { M.holds memory.new ≡ (worked call self.old.state (M.holds memory.old)).mem }
+        ensures answer { result ≡ told (worked call self.old.state (M.holds memory.old)) }
     {
         let refusal = self.take(memory, call).err();
         Answer {
@@ -106,7 +106,7 @@ impl Module {
 
     // The byte at a place: the stored ones, then the clock's eight, then status. It clears no flag.
     pub fn show<M: Memory>(&self, memory: &M, place: u16) -> Result<u8, Refusal>
-        ensures { result ≡ show self.now.state (holds memory.now) place }
+        ensures { result ≡ show self.now.state (M.holds memory.now) place }
     {
         if !memory.is_fit() {
             return Err(Refusal::Unfit);
@@ -116,7 +116,7 @@ impl Module {
 
     // What the interrupt pin does.
     pub fn pin<M: Memory>(&self, memory: &M) -> Result<Pin, Refusal>
-        ensures { result ≡ pin self.now.state (holds memory.now) }
+        ensures { result ≡ pin self.now.state (M.holds memory.now) }
     {
         if !memory.is_fit() {
             return Err(Refusal::Unfit);

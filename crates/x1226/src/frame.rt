@@ -47,8 +47,8 @@ impl State {
 
     // The next byte is sent, from its highest bit on.
     pub fn send<M: Memory>(&mut self, memory: &M)
-        requires { Ready (holds memory.now) }
-        ensures { self.new ≡ sending self.old (holds memory.now) }
+        requires { Ready (M.holds memory.now) }
+        ensures { self.new ≡ sending self.old (M.holds memory.now) }
     {
         let byte = self.to_send(memory);
         self.phase = Phase::Sending { sent: 0, byte };
@@ -68,8 +68,8 @@ impl State {
 
     // The slave byte's acknowledge ends: a read copies and sends, a write goes on to its address.
     fn addressed<M: Memory>(&mut self, memory: &M, slave: Option<Slave>)
-        requires { Ready (holds memory.now) }
-        ensures { self.new ≡ addressed_as slave self.old (holds memory.now) }
+        requires { Ready (M.holds memory.now) }
+        ensures { self.new ≡ addressed_as slave self.old (M.holds memory.now) }
     {
         let Some(slave) = slave else {
             self.phase = Phase::Deaf;
@@ -105,8 +105,8 @@ impl State {
 
     // An acknowledge ends.
     pub fn acknowledged<M: Memory>(&mut self, memory: &M, stage: u8, byte: u8)
-        requires { Ready (holds memory.now) }
-        ensures { self.new ≡ acknowledged stage byte self.old (holds memory.now) }
+        requires { Ready (M.holds memory.now) }
+        ensures { self.new ≡ acknowledged stage byte self.old (M.holds memory.now) }
     {
         match stage {
             0 => self.addressed(memory, Slave::named(byte)),

@@ -34,10 +34,10 @@ impl State {
 
     // What the module does depends on its phase and on the edge.
     fn act<M: Memory>(&mut self, memory: &mut M, edge: Edge) -> Result<(), Refusal>
-        requires { Ready (holds memory.old) }
-        ensures state { self.new ≡ (acted edge self.old (holds memory.old)).state }
-        ensures mem { holds memory.new ≡ (acted edge self.old (holds memory.old)).mem }
-        ensures answer { result ≡ verdict (acted edge self.old (holds memory.old)).refusal }
+        requires { Ready (M.holds memory.old) }
+        ensures state { self.new ≡ (acted edge self.old (M.holds memory.old)).state }
+        ensures mem { M.holds memory.new ≡ (acted edge self.old (M.holds memory.old)).mem }
+        ensures answer { result ≡ verdict (acted edge self.old (M.holds memory.old)).refusal }
     {
         match (self.phase, edge) {
             (_, Edge::Start) => self.start(),
@@ -61,10 +61,10 @@ impl State {
 
     // New levels are heard or not, and remembered whatever came of them.
     pub fn give<M: Memory>(&mut self, memory: &mut M, levels: Levels) -> Result<(), Refusal>
-        requires { Ready (holds memory.old) }
-        ensures state { self.new ≡ (leveled levels self.old (holds memory.old)).state }
-        ensures mem { holds memory.new ≡ (leveled levels self.old (holds memory.old)).mem }
-        ensures answer { result ≡ verdict (leveled levels self.old (holds memory.old)).refusal }
+        requires { Ready (M.holds memory.old) }
+        ensures state { self.new ≡ (leveled levels self.old (M.holds memory.old)).state }
+        ensures mem { M.holds memory.new ≡ (leveled levels self.old (M.holds memory.old)).mem }
+        ensures answer { result ≡ verdict (leveled levels self.old (M.holds memory.old)).refusal }
     {
         let answer = self.act(memory, self.heard(levels));
         self.levels = levels;

@@ -14,8 +14,8 @@ use memory::Memory;
 
 // The byte that a memory stores at a place; 0 where it has no such place.
 pub fn stored_byte<M: Memory>(memory: &M, place: usize) -> u8
-    requires { Ready (holds memory.now) }
-    ensures { result ≡ slice_index (holds memory.now).bytes place }
+    requires { Ready (M.holds memory.now) }
+    ensures { result ≡ slice_index (M.holds memory.now).bytes place }
 {
     match memory.read(place) {
         Ok(byte) => byte,
@@ -45,8 +45,8 @@ impl State {
 
     // The byte of a register: the memory's; of the clock and of status as copied; 00h at an empty address.
     fn register_to_send<M: Memory>(&self, memory: &M, register: u16) -> u8
-        requires { Ready (holds memory.now) }
-        ensures { result ≡ register_to_send self.now (holds memory.now) (section_of register) register }
+        requires { Ready (M.holds memory.now) }
+        ensures { result ≡ register_to_send self.now (M.holds memory.now) (section_of register) register }
     {
         match Section::of(register) {
             None => 0,
@@ -63,8 +63,8 @@ impl State {
 
     // The byte that a read sends where the counter stands.
     pub fn to_send<M: Memory>(&self, memory: &M) -> u8
-        requires { Ready (holds memory.now) }
-        ensures { result ≡ to_send self.now (holds memory.now) self.now.area }
+        requires { Ready (M.holds memory.now) }
+        ensures { result ≡ to_send self.now (M.holds memory.now) self.now.area }
     {
         match self.area {
             Area::Array => stored_byte(memory, place_of(Area::Array, self.counter)),

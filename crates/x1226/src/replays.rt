@@ -8,7 +8,7 @@ use memory::Memory;
 
 // Makes a module over a memory and works calls on it in order, each with its row of answers; as many as there are rows for.
 pub fn replay<M: Memory>(memory: &mut M, calls: &[Call], rows: &mut [Answer]) -> Module
-    ensures { Replayed (min (length calls.now) (length rows.old)) (holds memory.old) calls.now rows.old rows.new result.state (holds memory.new) }
+    ensures { Replayed (min (length calls.now) (length rows.old)) (M.holds memory.old) calls.now rows.old rows.new result.state (M.holds memory.new) }
 {
     let mut module = Module::make();
     for k in 0..calls.len().min(rows.len()) {

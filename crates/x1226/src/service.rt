@@ -29,8 +29,8 @@ const AL0E: u8 = 0x20;
 
 // The byte stored for INT.
 fn interrupt_byte<M: Memory>(memory: &M) -> u8
-    requires { Ready (holds memory.now) }
-    ensures { result ≡ interrupt_byte (holds memory.now) }
+    requires { Ready (M.holds memory.now) }
+    ensures { result ≡ interrupt_byte (M.holds memory.now) }
 {
     stored_byte(memory, place_of(Area::Registers, INT))
 }
@@ -45,8 +45,8 @@ fn low_while(condition: bool) -> Pin
 impl State {
     // The byte at a place: the memory's, then the clock's and status as they stand.
     fn byte_shown<M: Memory>(&self, memory: &M, place: usize) -> u8
-        requires { Ready (holds memory.now) }
-        ensures { result ≡ byte_shown self.now (holds memory.now) place }
+        requires { Ready (M.holds memory.now) }
+        ensures { result ≡ byte_shown self.now (M.holds memory.now) place }
     {
         if place < PLACES {
             stored_byte(memory, place)
@@ -59,8 +59,8 @@ impl State {
 
     // The byte at a place up to that of status; a place above it is refused.
     pub fn shown<M: Memory>(&self, memory: &M, place: u16) -> Result<u8, Refusal>
-        requires { Ready (holds memory.now) }
-        ensures { result ≡ shown self.now (holds memory.now) place }
+        requires { Ready (M.holds memory.now) }
+        ensures { result ≡ shown self.now (M.holds memory.now) place }
     {
         if place as usize > STATUS_PLACE {
             return Err(Refusal::BadPlace { place });
@@ -89,8 +89,8 @@ impl State {
 
     // The pin as it stands: by INT while supplied, else released.
     pub fn pin_shown<M: Memory>(&self, memory: &M) -> Pin
-        requires { Ready (holds memory.now) }
-        ensures { result ≡ pin_shown self.now (holds memory.now) }
+        requires { Ready (M.holds memory.now) }
+        ensures { result ≡ pin_shown self.now (M.holds memory.now) }
     {
         match self.supply {
             Supply::Off => Pin::Released,

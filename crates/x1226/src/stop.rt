@@ -18,10 +18,10 @@ const WRITE_CYCLE: u8 = 164;
 impl State {
     // A stop: a write that it closes is worked or refused, and the staged bytes are emptied on every way out.
     pub fn stop<M: Memory>(&mut self, memory: &mut M) -> Result<(), Refusal>
-        requires { Ready (holds memory.old) }
-        ensures state { self.new ≡ (stopped self.old (holds memory.old)).state }
-        ensures mem { holds memory.new ≡ (stopped self.old (holds memory.old)).mem }
-        ensures answer { result ≡ verdict (stopped self.old (holds memory.old)).refusal }
+        requires { Ready (M.holds memory.old) }
+        ensures state { self.new ≡ (stopped self.old (M.holds memory.old)).state }
+        ensures mem { M.holds memory.new ≡ (stopped self.old (M.holds memory.old)).mem }
+        ensures answer { result ≡ verdict (stopped self.old (M.holds memory.old)).refusal }
     {
         let closes = self.phase.closes();
         self.phase = Phase::Deaf;

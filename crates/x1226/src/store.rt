@@ -29,7 +29,7 @@ fn address_staged(area: Area, address: u16, k: u16) -> u16
 // Stores what is held in staged place `k`, under the mask where it is a register's.
 fn store_held<M: Memory>(memory: &mut M, area: Area, address: u16, k: u16, held: Option<u8>)
     requires { k < 64 }
-    ensures { holds memory.new ≡ store_held area address k held (holds memory.old) }
+    ensures { M.holds memory.new ≡ store_held area address k held (M.holds memory.old) }
 {
     if let Some(byte) = held {
         let to = address_staged(area, address, k);
@@ -39,7 +39,7 @@ fn store_held<M: Memory>(memory: &mut M, area: Area, address: u16, k: u16, held:
 
 // Stores every staged byte, rising.
 fn store_all<M: Memory>(memory: &mut M, area: Area, staged: &Staging)
-    ensures { holds memory.new ≡ stored_held area staged.now.address staged.now.held 64 (holds memory.old) }
+    ensures { M.holds memory.new ≡ stored_held area staged.now.address staged.now.held 64 (M.holds memory.old) }
 {
     for k in 0..STAGED {
         store_held(memory, area, staged.address, k as u16, staged.held[k]);
@@ -48,9 +48,9 @@ fn store_all<M: Memory>(memory: &mut M, area: Area, staged: &Staging)
 
 // Stores the staged bytes if the memory's life lasts for all of them.
 fn store<M: Memory>(memory: &mut M, area: Area, staged: &Staging) -> Result<(), Refusal>
-    requires { Ready (holds memory.old) }
-    ensures answer { result ≡ (store area staged.now (holds memory.old)).answer }
-    ensures after { holds memory.new ≡ (store area staged.now (holds memory.old)).mem }
+    requires { Ready (M.holds memory.old) }
+    ensures answer { result ≡ (store area staged.now (M.holds memory.old)).answer }
+    ensures after { M.holds memory.new ≡ (store area staged.now (M.holds memory.old)).mem }
 {
     if let Err(memory::Refusal::Short { life }) = memory.claim(staged.count()) {
         return Err(Refusal::Worn {
@@ -65,17 +65,17 @@ fn store<M: Memory>(memory: &mut M, area: Area, staged: &Staging) -> Result<(), 
 
 // The byte stored for BL, the first of the control registers.
 fn lock_byte<M: Memory>(memory: &M) -> u8
-    requires { Ready (holds memory.now) }
-    ensures { result ≡ lock_byte (holds memory.now) }
+    requires { Ready (M.holds memory.now) }
+    ensures { result ≡ lock_byte (M.holds memory.now) }
 {
     stored_byte(memory, place_of(Area::Registers, Section::Control.first()))
 }
 
 // Stores a page, unless BL locks it.
 pub fn store_page<M: Memory>(memory: &mut M, staged: &Staging) -> Result<(), Refusal>
-    requires { Ready (holds memory.old) }
-    ensures answer { result ≡ (store_page staged.now (holds memory.old)).answer }
-    ensures after { holds memory.new ≡ (store_page staged.now (holds memory.old)).mem }
+    requires { Ready (M.holds memory.old) }
+    ensures answer { result ≡ (store_page staged.now (M.holds memory.old)).answer }
+    ensures after { M.holds memory.new ≡ (store_page staged.now (M.holds memory.old)).mem }
 {
     if is_locked(lock_byte(memory), staged.address) {
         return Err(Refusal::PageLocked {
@@ -91,9 +91,9 @@ pub fn store_registers<M: Memory>(
     latches: Latches,
     staged: &Staging,
 ) -> Result<(), Refusal>
-    requires { Ready (holds memory.old) }
-    ensures answer { result ≡ (store_registers latches staged.now (holds memory.old)).answer }
-    ensures after { holds memory.new ≡ (store_registers latches staged.now (holds memory.old)).mem }
+    requires { Ready (M.holds memory.old) }
+    ensures answer { result ≡ (store_registers latches staged.now (M.holds memory.old)).answer }
+    ensures after { M.holds memory.new ≡ (store_registers latches staged.now (M.holds memory.old)).mem }
 {
     if !latches.rwel {
         return Err(Refusal::RwelOff {

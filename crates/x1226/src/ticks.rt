@@ -10,8 +10,8 @@ use memory::Memory;
 impl State {
     // After a mark the alarms are looked at.
     fn note<M: Memory>(&mut self, memory: &M)
-        requires { Ready (holds memory.now) }
-        ensures { self.new ≡ noted self.old (holds memory.now) }
+        requires { Ready (M.holds memory.now) }
+        ensures { self.new ≡ noted self.old (M.holds memory.now) }
     {
         let came = Alarms::matching(memory, self.timer.clock);
         self.flags = self.flags.joined(came);
@@ -20,8 +20,8 @@ impl State {
 
     // The divider counts; a full second with RTCF off is a mark.
     fn time<M: Memory>(&mut self, memory: &M)
-        requires { Ready (holds memory.now) }
-        ensures { self.new ≡ timed self.old (holds memory.now) }
+        requires { Ready (M.holds memory.now) }
+        ensures { self.new ≡ timed self.old (M.holds memory.now) }
     {
         if self.timer.completes() && !self.timer.rtcf {
             self.timer.mark();
@@ -33,8 +33,8 @@ impl State {
 
     // A tick: one less of the write cycle; the divider counts while supplied.
     pub fn tick<M: Memory>(&mut self, memory: &M)
-        requires { Ready (holds memory.now) }
-        ensures { self.new ≡ ticked self.old (holds memory.now) }
+        requires { Ready (M.holds memory.now) }
+        ensures { self.new ≡ ticked self.old (M.holds memory.now) }
     {
         match self.supply {
             Supply::Off => {}
