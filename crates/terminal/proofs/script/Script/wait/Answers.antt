@@ -8,4 +8,4 @@ loop-tick-init c = ticks_none (vec_items c.args.self.now.calls)
 pub loop-tick-preserved : goal.loop-tick-preserved
 loop-tick-preserved c =
     ticks_more (vec_items c.args.self.now.calls) (vec_items c.loop-tick.self.calls) (vec_items c.add.new.self.calls)
-    c.loop-tick.-tick c.loop-tick.invariant c.in_ok-add.ensures
+    c.loop-tick._tick c.loop-tick.invariant c.in_ok-add.ensures
