@@ -65,7 +65,7 @@ fn work_line<M: Memory>(
     number: u16,
     line: &[u8],
 ) -> bool
-    ensures goes_on { result ≡ (line_worked number line.now chip.old.state (M.holds memory.old)).goes-on }
+    ensures goes_on { result ≡ (line_worked number line.now chip.old.state (M.holds memory.old)).goes_on }
     ensures state { chip.new.state ≡ (line_worked number line.now chip.old.state (M.holds memory.old)).state }
     ensures mem { M.holds memory.new ≡ (line_worked number line.now chip.old.state (M.holds memory.old)).mem }
     ensures written { view reply.new ≡ appended (row_text (line_worked number line.now chip.old.state (M.holds memory.old)).row) (view reply.old) }

@@ -4,4 +4,6 @@ use Rattle.runlog.proofs.lines.is_text.Goals as goal
 use Rattle.std.proofs.lemmas.Bool.Decides.{Decides-eqb}
 
 pub returns : goal.returns
-returns c = let d = slice_eq-Decides Decides-eqb _ _ _ c.eq.ensures in search (rules, bytes_eq-Decides)
+returns c =
+    let d = slice_eq-Decides Decides-eqb c.args.text.now c.args.other.now _ c.eq.ensures in
+    search (rules, bytes_eq-Decides)

@@ -22,9 +22,9 @@ loop-digit-preserved c =
 pub returns-then-value-gt-LARGEST : goal.returns-then-value-gt-LARGEST
 returns-then-value-gt-LARGEST c =
     too_large c.args.word.now c.loop-digit.value c.loop-digit.digit-index c.if-is_empty.ensures
-    c.if-word-gt-MOST-DIGITS.false c.loop-digit-test.false c.loop-digit.invariant.0 c.loop-digit.invariant.1 c.if-value-gt-LARGEST.true
+    c.if-word-gt-MOST_DIGITS.false c.loop-digit-test.false c.loop-digit.invariant.0 c.loop-digit.invariant.1 c.if-value-gt-LARGEST.true
 
 pub returns-else-value-gt-LARGEST : goal.returns-else-value-gt-LARGEST
 returns-else-value-gt-LARGEST c =
     the_number c.args.word.now c.loop-digit.value c.loop-digit.digit-index c.if-is_empty.ensures
-    c.if-word-gt-MOST-DIGITS.false c.loop-digit-test.false c.loop-digit.invariant.0 c.loop-digit.invariant.1 c.if-value-gt-LARGEST.false
+    c.if-word-gt-MOST_DIGITS.false c.loop-digit-test.false c.loop-digit.invariant.0 c.loop-digit.invariant.1 c.if-value-gt-LARGEST.false
