@@ -1,5 +1,5 @@
 -- Answers that are there only where a test passes. Assumes nothing.
-use Rattle.std.proofs.Common.{◌≡◌, ℕ, Bool, true, false, cond, Some, None, Option, refl, arith}
+use Rattle.std.proofs.Common.{◌≡◌, ℕ, Bool, true, false, cond, Some, None, refl, arith}
 
 -- An answer that is there is the value, and the test passed.
 pub some_if : {A : Type 0} (test : Bool) (v d : A) → Some d ≡ cond test (Some v) None → (test ≡ true) × (d ≡ v)

@@ -1,5 +1,5 @@
 -- Bytes and the counts that they hold: each gives the other back. Assumes nothing.
-use Rattle.std.proofs.Common.{◌≡◌, ℕ, zero, suc, ◌-◌, ◌%◌, ◌<◌, ◌≤◌, Bool, true, false, cond, not, ◌&&◌, ◌||◌, T, eqb, ltb, leb, ◌⊎◌, refl, ⊎_elim, arith}
+use Rattle.std.proofs.Common.{◌≡◌, ℕ, zero, suc, ◌-◌, ◌%◌, ◌<◌, ◌≤◌, Bool, true, not, ◌&&◌, ◌||◌, eqb, ltb, ◌⊎◌, refl, ⊎_elim, arith}
 use Rattle.std.proofs.lemmas.Bool.{and_from, and_parts, both_ways, cases_lt, cases_order, cond-false, cond-true, eqb-true, le-leb, le-ltb, leb-true, lt-ltb, ltb-true, not-true, or_cases}
 use Rattle.calendar.specs.Digits.{bcd_of, count_of, in_range}
 use Rattle.calendar.specs.Hours.{form_of, good_hours, hour_of, hours_byte}

@@ -1,21 +1,19 @@
 -- Dates that exist: eight good bytes are what their date says, and a date in range is said by good bytes. Assumes nothing.
-use Rattle.std.proofs.Common.{◌≡◌, ℕ, ◌+◌, ◌*◌, ◌/◌, ◌%◌, ◌<◌, ◌≤◌, Bool, true, false, cond, not, ◌&&◌, ◌||◌, eqb, ltb, leb, ◌⊎◌, is_some, Option, sym, refl, ap, ◌∙◌, subst, ⊎_elim, arith, lit≤}
+use Rattle.std.proofs.Common.{◌≡◌, ℕ, ◌+◌, ◌*◌, ◌/◌, ◌%◌, ◌≤◌, Bool, true, false, not, ◌&&◌, ◌||◌, eqb, leb, ◌⊎◌, is_some, Option, sym, refl, ap, ◌∙◌, subst, ⊎_elim, arith, lit≤}
 use Rattle.std.specs.Option.{option_map}
 use Rattle.std.proofs.lemmas.Bool.{and_from, cases_order, eqb-true, false≢true, le-leb, leb-true, or_cases}
 use Rattle.calendar.specs.Clock.{register_number, start_date}
-use Rattle.calendar.specs.Dates.{date_of, day_of, exists, first_bad, in_month, time_of, unless}
+use Rattle.calendar.specs.Dates.{date_of, day_of, exists, first_bad, in_month, unless}
 use Rattle.calendar.specs.Digits.{bcd_of, count_of, in_range}
-use Rattle.calendar.specs.Hours.{good_hours, hour_of, hours_byte}
+use Rattle.calendar.specs.Hours.{good_hours}
 use Rattle.calendar.specs.Next.{clock_of}
-use Rattle.calendar.specs.Years.{in_table, in_year, leap_year, month_length}
+use Rattle.calendar.specs.Years.{in_table, in_year, leap_year}
 use Rattle.calendar.specs.declared.clock.Clock.{Clock}
 use Rattle.calendar.specs.declared.clock.Register.{Register}
 use Rattle.calendar.specs.declared.clock.Register.TheVariants.{Seconds, Minutes, Hours, Date as DateRegister, Month, Year, Weekday, Century}
 use Rattle.calendar.specs.declared.date.Date.{Date}
-use Rattle.calendar.specs.declared.day.Day.{Day}
-use Rattle.calendar.specs.declared.time.Time.{Time}
-use Rattle.calendar.proofs.Ranges.{IsDate, IsDay, IsTime}
-use Rattle.calendar.proofs.Bytes.{ShowsHour, bcd_back, bcd_in_range, count_back, hours_back, hours_shown, in_range_true}
+use Rattle.calendar.proofs.Ranges.{IsDate}
+use Rattle.calendar.proofs.Bytes.{bcd_back, bcd_in_range, count_back, hours_back, hours_shown, in_range_true}
 use Rattle.calendar.proofs.Lengths.{month_length_le}
 
 abbrev fine : Option Register → Bool

@@ -1,9 +1,9 @@
 -- A date that exists is fixed by its number, its hour form and its weekday. Assumes nothing.
-use Rattle.std.proofs.Common.{◌≡◌, ℕ, ◌+◌, ◌-◌, ◌*◌, ◌<◌, ◌≤◌, Bool, true, cond, sym, refl, ap, ◌∙◌, subst, arith}
+use Rattle.std.proofs.Common.{◌≡◌, ℕ, ◌+◌, ◌-◌, ◌*◌, ◌<◌, ◌≤◌, Bool, true, sym, ap, ◌∙◌, arith}
 use Rattle.calendar.specs.Dates.{date_of, day_number, exists, number, second_of_day, seconds_of}
 use Rattle.calendar.specs.Hours.{form_of}
 use Rattle.calendar.specs.Next.{clock_of}
-use Rattle.calendar.specs.Years.{days_before_month, leap_year, month_length, month_length_after, year_length, year_length_after}
+use Rattle.calendar.specs.Years.{days_before_month, leap_year, month_length, month_length_after, year_length_after}
 use Rattle.calendar.specs.declared.clock.Clock.{Clock}
 use Rattle.calendar.specs.declared.date.Date.{Date}
 use Rattle.calendar.specs.declared.day.Day.{Day}

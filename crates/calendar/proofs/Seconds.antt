@@ -1,7 +1,6 @@
 -- A date plus n seconds: what the crates above cite. Assumes nothing.
-use Rattle.std.proofs.Common.{◌≡◌, ℕ, zero, suc, ◌+◌, ◌*◌, ◌%◌, ◌<◌, true, false, sym, refl, ap, ◌∙◌, subst, add-one, arith}
-use Rattle.calendar.specs.Dates.{Plus, date_of, day_number, exists, first_second, midnights, number, rolled, second_of_day, seconds_of}
-use Rattle.calendar.specs.Hours.{form_of}
+use Rattle.std.proofs.Common.{◌≡◌, ℕ, zero, suc, ◌+◌, ◌%◌, ◌<◌, true, false, sym, refl, ap, ◌∙◌, subst, add-one, arith}
+use Rattle.calendar.specs.Dates.{Plus, date_of, exists, first_second, midnights, number, rolled, seconds_of}
 use Rattle.calendar.specs.Next.{StepsAdd, after, clock_of, date_after, next}
 use Rattle.calendar.specs.declared.clock.Clock.{Clock}
 use Rattle.calendar.specs.declared.date.Date.{Date}

@@ -1,9 +1,8 @@
 -- One second later, by times, days and dates. Assumes nothing.
-use Rattle.std.proofs.Common.{◌≡◌, ℕ, ◌+◌, ◌-◌, ◌*◌, ◌/◌, ◌%◌, ◌<◌, ◌≤◌, Bool, true, false, cond, ltb, Some, None, Option, sym, refl, ap, ◌∙◌, subst, arith, lit≤}
+use Rattle.std.proofs.Common.{◌≡◌, ℕ, ◌+◌, ◌-◌, ◌*◌, ◌%◌, ◌<◌, ◌≤◌, Bool, cond, ltb, Some, None, Option, sym, refl, ap, ◌∙◌, arith, lit≤}
 use Rattle.std.proofs.lemmas.Bool.{cond_both, cond-false, cond-true, le-ltb, lt-ltb, ltb-false, ltb-true}
-use Rattle.std.proofs.lemmas.Bool.Decides.{nat_tests}
-use Rattle.calendar.specs.Dates.{day_number, first_second, midnights, rolled, second_of_day, seconds_of}
-use Rattle.calendar.specs.Next.{date_after, day_after, midnight, moved, time_after, weekday_after}
+use Rattle.calendar.specs.Dates.{day_number, midnights, rolled, second_of_day, seconds_of}
+use Rattle.calendar.specs.Next.{date_after, day_after, moved, time_after, weekday_after}
 use Rattle.calendar.specs.Years.{days_before_month, days_before_year, leap_year, month_length, month_length_after, sum_below, year_length, year_length_after}
 use Rattle.calendar.specs.declared.date.Date.{Date}
 use Rattle.calendar.specs.declared.day.Day.{Day}

@@ -1,5 +1,5 @@
 -- One call more of a list that is worked.
-use Rattle.std.proofs.Common.{◌≡◌, ℕ, ◌+◌, ◌<◌, ◌≤◌, ◌≢◌, List, [], ◌∷◌, ◌++◌, reverse, length, get_or, take, set, sym, refl, ap, ◌∙◌, arith, get_or-set_other, get_or-set_same, below_more}
+use Rattle.std.proofs.Common.{◌≡◌, ℕ, ◌+◌, ◌<◌, ◌≢◌, List, [], ◌∷◌, reverse, length, get_or, take, set, sym, refl, ap, ◌∙◌, arith, get_or-set_other, get_or-set_same, below_more}
 use mathlib.Core.List.{reverse-append}
 use Rattle.std.proofs.lemmas.List.{take_more}
 use Rattle.memory.specs.Model.{Mem}
@@ -7,7 +7,6 @@ use Rattle.chip.specs.declared.calls.Answer.{Answer}
 use Rattle.chip.specs.declared.calls.Call.{Call}
 use Rattle.x1226.specs.declared.state.State.{State}
 use Rattle.x1226.specs.State.{made}
-use Rattle.x1226.specs.Stop.{Left}
 use Rattle.x1226.specs.Step.{left, told, worked}
 use Rattle.x1226.specs.Replay.{no_call, no_row, first, left_by, Replayed}
 

@@ -1,5 +1,5 @@
 -- One staged place more: counted, or stored.
-use Rattle.std.proofs.Common.{◌≡◌, ℕ, zero, suc, ◌+◌, Bool, true, false, cond, List, get_or, is_some, Some, None, Option, sym, refl, ap, ◌∙◌, add-one, arith}
+use Rattle.std.proofs.Common.{◌≡◌, ℕ, suc, ◌+◌, List, get_or, Some, None, Option, sym, refl, add-one}
 use Rattle.memory.specs.Model.{Mem}
 use Rattle.chip.specs.declared.slaves.Area.{Area}
 use Rattle.x1226.specs.Stop.{count_held, store_held, stored_held}

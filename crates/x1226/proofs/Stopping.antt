@@ -1,5 +1,5 @@
 -- A stop by what it stores or asks for.
-use Rattle.std.proofs.Common.{◌≡◌, ℕ, Bool, true, false, cond, ltb, Some, None, Ok, Err, Option, Result, sym, refl, ap, ◌∙◌, subst}
+use Rattle.std.proofs.Common.{◌≡◌, ℕ, Bool, true, false, cond, ltb, Some, None, Ok, Err, Option, Result, sym, refl, ap, ◌∙◌}
 use Rattle.std.proofs.lemmas.Bool.{cond-true, cond-false}
 use Rattle.memory.specs.Model.{Mem}
 use Rattle.calendar.specs.Dates.{first_bad}
@@ -8,10 +8,9 @@ use Rattle.chip.specs.Locks.{is_locked}
 use Rattle.chip.specs.Registers.{section_of}
 use Rattle.chip.specs.Sizes.{write_cycle}
 use Rattle.chip.specs.declared.refusals.Refusal.{Refusal}
-use Rattle.chip.specs.declared.refusals.Refusal.TheVariants.{Worn, RwelOff, PageLocked}
+use Rattle.chip.specs.declared.refusals.Refusal.TheVariants.{RwelOff, PageLocked}
 use Rattle.chip.specs.declared.registers.Section.{Section}
 use Rattle.chip.specs.declared.registers.Section.TheVariants.{Clock as ClockSection}
-use Rattle.chip.specs.declared.slaves.Area.{Area}
 use Rattle.chip.specs.declared.slaves.Area.TheVariants.{Array, Registers}
 use Rattle.x1226.specs.declared.state.Phase.TheVariants.{Deaf}
 use Rattle.x1226.specs.declared.state.Latches.{Latches}

@@ -1,5 +1,5 @@
 -- The register's number.
-use Rattle.std.proofs.Common.{◌≡◌, ℕ, Some, ap, ◌∙◌}
+use Rattle.std.proofs.Common.{ℕ, Some, ap, ◌∙◌}
 use Rattle.std.specs.Option.{option_map}
 use Rattle.calendar.specs.Clock.{register_number}
 use Rattle.calendar.specs.Dates.{first_bad}

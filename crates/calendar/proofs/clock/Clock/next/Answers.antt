@@ -5,7 +5,6 @@ use Rattle.calendar.proofs.Seconds.{next_exists, next_is, next_none, next_plus, 
 use Rattle.calendar.specs.Dates.{Plus, date_of, exists, first_second, number}
 use Rattle.calendar.specs.Next.{StepsAdd, clock_of, date_after, next}
 use Rattle.calendar.specs.declared.clock.Clock.{Clock}
-use Rattle.calendar.specs.declared.date.Date.{Date}
 use Rattle.calendar.proofs.clock.Clock.next.Goals as goal
 
 laws : (c r : Clock) → r ≡ next c → record {

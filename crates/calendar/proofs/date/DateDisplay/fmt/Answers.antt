@@ -1,8 +1,7 @@
 -- What is written is the text of the date in its form, since each pair of digits is that of its count.
-use Rattle.std.proofs.Common.{◌≡◌, ℕ, List, refl, ap, ◌∙◌, subst}
+use Rattle.std.proofs.Common.{ℕ, List, refl, ap, ◌∙◌, subst}
 use Rattle.std.specs.Fmt.{HasWritten}
 use Rattle.calendar.proofs.Figures.{figures_are, text_12, text_24}
-use Rattle.calendar.specs.Hours.{twelve}
 use Rattle.calendar.specs.Text.{two}
 use Rattle.calendar.proofs.date.DateDisplay.fmt.Goals as goal
 

@@ -1,5 +1,5 @@
 -- The sums fit: the table's numbers are small.
-use Rattle.std.proofs.Common.{arith, rules}
+use Rattle.std.proofs.Common.{rules}
 use Rattle.calendar.proofs.Lengths.{before_year_le}
 use Rattle.calendar.proofs.day.Day.number.Goals as goal
 

@@ -1,5 +1,5 @@
 -- What is written is the text of the day, since each pair of digits is that of its count.
-use Rattle.std.proofs.Common.{◌≡◌, ℕ, ◌/◌, List, ◌∷◌, ◌++◌, refl, subst, arith}
+use Rattle.std.proofs.Common.{ℕ, ◌/◌, List, ◌∷◌, ◌++◌, refl, subst, arith}
 use Rattle.std.specs.Fmt.{HasWritten}
 use Rattle.calendar.proofs.Figures.{figures_are}
 use Rattle.calendar.proofs.day.DayDisplay.fmt.Goals as goal
