@@ -19,7 +19,6 @@ use Rattle.chip.specs.declared.calls.Supply.{Supply}
 use Rattle.chip.specs.declared.calls.Supply.TheVariants.{Off, Main, Battery}
 use Rattle.rules.specs.Wires.{supply}
 use Rattle.rules.specs.Latches.{wel, rwel}
-use Rattle.rules.specs.Clock.{rtcf}
 use Rattle.rules.specs.Alarms.{flag}
 use Rattle.rules.specs.Reads as reads
 use Rattle.rules.specs.Reads.{status, byte_sent, register_sent, copied}

@@ -14,7 +14,6 @@ use Rattle.rules.specs.Past.{History, refusal_of}
 use Rattle.rules.specs.Wires as wires
 use Rattle.rules.specs.History.{entry_of, outcome_at, extended, history, newest_outcome, answer}
 use Rattle.x1226.specs.declared.state.State.{State}
-use Rattle.x1226.specs.Frame.{pulls}
 use Rattle.x1226.specs.Stop.{Left, refused}
 use Rattle.x1226.specs.Step.{done, taken, worked, told, left}
 use Rattle.law.proofs.Tracks.{Tracks}

@@ -12,11 +12,9 @@ use Rattle.chip.specs.declared.registers.Section.{Section}
 use Rattle.chip.specs.declared.registers.Section.TheVariants.{Alarm0, Alarm1}
 use Rattle.rules.specs.Past.{History, is_main, is_none}
 use Rattle.rules.specs.Wires as wires
-use Rattle.rules.specs.Counter.{counter}
 use Rattle.rules.specs.Clock.{rtcf, divider, is_mark, waiting, clock}
 use Rattle.rules.specs.Alarms.{flag, matched, matched_since_copy}
 use Rattle.rules.specs.Alarms as alarms
-use Rattle.rules.specs.Reads.{status, copied}
 use Rattle.rules.specs.History.{entry_of}
 use Rattle.x1226.specs.declared.state.Alarms.{Alarms}
 use Rattle.x1226.specs.declared.state.Phase.{Phase}

@@ -1,5 +1,5 @@
 -- A whole log, from what its parts left.
-use Rattle.std.proofs.Common.{◌≡◌, ℕ, ◌+◌, ◌*◌, ◌<◌, ◌≤◌, Bool, true, false, cond, ◌||◌, ltb, List, [], ◌∷◌, ◌++◌, length, drop, Some, None, Ok, Option, sym, refl, ap, ◌∙◌, subst, arith}
+use Rattle.std.proofs.Common.{◌≡◌, ℕ, ◌<◌, ◌≤◌, true, false, ◌||◌, ltb, List, ◌++◌, length, Some, None, sym, refl, ap, ◌∙◌, subst, arith}
 use base.Fml.{GName}
 use Rattle.std.proofs.lemmas.List.{append-nil}
 use Rattle.std.proofs.lemmas.Bool.{cond-true, cond-false, le-ltb, or_from}
@@ -8,7 +8,7 @@ use Rattle.chip.specs.declared.refusals.Refusal.TheVariants.{Unfit, NoNames, Log
 use Rattle.x1226.specs.declared.state.State.{State}
 use Rattle.runlog.specs.Texts.{lines}
 use Rattle.runlog.specs.Reply.{Written, appended, row_text, Small}
-use Rattle.runlog.specs.Run.{most_log, least_reply, reply_names, refused_row, Ran, Logged, named, not_named, values_worked, log_worked, lines_worked, rows_text, reply_text, at_front, replied, unlogged, run_log, Smalls, Finished}
+use Rattle.runlog.specs.Run.{most_log, least_reply, reply_names, refused_row, Ran, named, not_named, values_worked, log_worked, lines_worked, rows_text, reply_text, at_front, replied, unlogged, run_log, Smalls, Finished}
 use Rattle.runlog.proofs.Replies.{appended_append, appended_grows, reply_whole}
 use Rattle.runlog.proofs.Lengths.{row_short}
 

@@ -1,5 +1,5 @@
 -- Calls that are worked one after the other.
-use Rattle.std.proofs.Common.{◌≡◌, ℕ, suc, ◌+◌, Bool, not, List, [], ◌∷◌, ◌++◌, replicate, None, sym, refl, ap, ◌∙◌, subst, add-one}
+use Rattle.std.proofs.Common.{◌≡◌, ℕ, ◌+◌, Bool, not, [], ◌∷◌, replicate, None, sym, refl, ap, ◌∙◌, subst, add-one}
 use Rattle.memory.specs.Model.{Mem}
 use Rattle.chip.specs.declared.calls.Answer.{Answer}
 use Rattle.chip.specs.declared.calls.Call.{Call}

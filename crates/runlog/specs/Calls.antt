@@ -1,5 +1,5 @@
 -- The value lines of a log, and the calls that they make.
-use Rattle.std.specs.Prelude.{ℕ, Bool, true, false, cond, ◌&&◌, List, [], ◌∷◌, replicate, Some, None, codes, Option, ◌==◌}
+use Rattle.std.specs.Prelude.{ℕ, cond, List, [], ◌∷◌, replicate, Some, None, codes, Option, ◌==◌}
 use Rattle.std.specs.Str.{bytes_eq}
 use Rattle.chip.specs.declared.calls.Call.{Call}
 use Rattle.chip.specs.declared.calls.Call.TheVariants.{Level as LevelCall, Tick as TickCall, Supply as SupplyCall}

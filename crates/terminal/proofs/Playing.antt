@@ -1,5 +1,5 @@
 -- A script and as many rows as it has calls: the law of the run is that of the whole script.
-use Rattle.std.proofs.Common.{◌≡◌, ℕ, ◌≤◌, min, List, ◌++◌, length, take, drop, sym, ap, ◌∙◌, subst, arith}
+use Rattle.std.proofs.Common.{◌≡◌, ℕ, ◌≤◌, min, List, ◌++◌, length, take, sym, ◌∙◌, subst, arith}
 use Rattle.std.proofs.lemmas.List.{take_all, take_at}
 use Rattle.chip.specs.declared.calls.Answer.{Answer}
 use Rattle.chip.specs.declared.calls.Call.{Call}

@@ -1,4 +1,4 @@
-use Rattle.std.proofs.Common.{◌≡◌, ◌≤◌, subst, arith}
+use Rattle.std.proofs.Common.{◌≡◌, subst, arith}
 use Rattle.runlog.proofs.Working.{Ticked, ticked_none, ticked_more}
 use Rattle.runlog.proofs.calls.tick.Goals as goal
 

@@ -1,4 +1,4 @@
-use Rattle.std.proofs.Common.{◌≡◌, true, eqb, length, get_or, take, subst}
+use Rattle.std.proofs.Common.{◌≡◌, true, get_or, subst}
 use Rattle.std.proofs.lemmas.List.{take_all}
 use Rattle.std.proofs.lemmas.Bool.{ne_eqb}
 use Rattle.runlog.specs.Texts.{lacks}

@@ -1,4 +1,4 @@
-use Rattle.std.proofs.Common.{◌≡◌, ◌-◌, ◌<◌, ◌≤◌, length, get_or, sym, ◌∙◌, arith}
+use Rattle.std.proofs.Common.{◌-◌, ◌≤◌, get_or, sym, ◌∙◌, arith}
 use Rattle.runlog.proofs.Numerals.{no_digit, value_more, digits_more, grows, too_large, the_number}
 use Rattle.runlog.proofs.numbers.number.Goals as goal
 

@@ -1,4 +1,4 @@
-use Rattle.std.proofs.Common.{◌+◌, ◌%◌, ◌<◌, ◌≤◌, ap, ◌∙◌, arith}
+use Rattle.std.proofs.Common.{◌+◌, ◌%◌, ◌<◌, ap, ◌∙◌, arith}
 use Rattle.runlog.specs.Reply.{view, pushed}
 use Rattle.runlog.proofs.Replies.{last_digit, only_digit}
 use Rattle.runlog.proofs.reply.Reply.+number.Goals as goal

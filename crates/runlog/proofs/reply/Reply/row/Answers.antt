@@ -1,7 +1,7 @@
-use Rattle.std.proofs.Common.{◌≤◌, sym, ap, ◌∙◌, subst}
+use Rattle.std.proofs.Common.{◌≤◌, ap, ◌∙◌, subst}
 use Rattle.runlog.specs.Numbers.{largest}
 use Rattle.runlog.specs.Texts.{space, lf}
-use Rattle.runlog.specs.Reply.{Written, view, appended, field, Small}
+use Rattle.runlog.specs.Reply.{view, appended, field}
 use Rattle.runlog.proofs.Replies.{row_appended}
 use Rattle.runlog.proofs.reply.Reply.row.Goals as goal
 

@@ -1,4 +1,4 @@
-use Rattle.std.proofs.Common.{◌≡◌, ◌+◌, drop, sym, ap, ◌∙◌}
+use Rattle.std.proofs.Common.{◌+◌, drop, sym, ap, ◌∙◌}
 use Rattle.runlog.specs.Reply.{view, appended}
 use Rattle.runlog.proofs.Replies.{appended_more, appended_all}
 use Rattle.runlog.proofs.reply.Reply.text.Goals as goal
