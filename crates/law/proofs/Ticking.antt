@@ -10,7 +10,7 @@ use Rattle.chip.specs.declared.calls.Supply.{Supply}
 use Rattle.chip.specs.declared.calls.Supply.TheVariants.{Off, Main, Battery}
 use Rattle.chip.specs.declared.registers.Section.{Section}
 use Rattle.chip.specs.declared.registers.Section.TheVariants.{Alarm0, Alarm1}
-use Rattle.rules.specs.Past.{History, is_main, is_none}
+use Rattle.rules.specs.Past.{History, is_main, is_off}
 use Rattle.rules.specs.Wires as wires
 use Rattle.rules.specs.Clock.{rtcf, divider, is_mark, waiting, clock}
 use Rattle.rules.specs.Alarms.{flag, matched, matched_since_copy}
@@ -268,13 +268,13 @@ tick_plain was h s m c t e cs ds rs ts ws k =
     }
 
 -- Main supply is a supply.
-no_supply_no_main : (p : Supply) → not (is_none p) ≡ false → is_main p ≡ false
+no_supply_no_main : (p : Supply) → not (is_off p) ≡ false → is_main p ≡ false
 no_supply_no_main Off e = refl
 no_supply_no_main Main e = absurd (true≢false e)
 no_supply_no_main Battery e = refl
 
 -- Both sides mean the same by supply.
-pub same_supplied : (p : Supply) → is_supplied p ≡ not (is_none p)
+pub same_supplied : (p : Supply) → is_supplied p ≡ not (is_off p)
 same_supplied Off = refl
 same_supplied Main = refl
 same_supplied Battery = refl

@@ -105,20 +105,20 @@ sound was [] = tt
 sound was (c ∷ cs) = sound_more was (history was cs) (accepted c) (sound was cs)
 
 -- The same of moments.
-abbrev All : List Moment → Type 0
-All [] = Unit {0}
-All (m ∷ ms) = ((c : Clock) → clock_write m.entry.outcome ≡ Some c → exists c ≡ true) × All ms
+abbrev AllExist : List Moment → Type 0
+AllExist [] = Unit {0}
+AllExist (m ∷ ms) = ((c : Clock) → clock_write m.entry.outcome ≡ Some c → exists c ≡ true) × AllExist ms
 
-all_moments : (h : History) → Sound h → All (moments h)
+all_moments : (h : History) → Sound h → AllExist (moments h)
 all_moments [] k = tt
 all_moments (e ∷ h) k = (k.0, all_moments h k.1)
 
-since_all : (b : Bool) (m : Moment) (ms : List Moment) → ((c : Clock) → clock_write m.entry.outcome ≡ Some c → exists c ≡ true) → All ms
-    → All (elim b as (λ _. List Moment) [ true ↦ [] | false ↦ m ∷ ms ])
+since_all : (b : Bool) (m : Moment) (ms : List Moment) → ((c : Clock) → clock_write m.entry.outcome ≡ Some c → exists c ≡ true) → AllExist ms
+    → AllExist (elim b as (λ _. List Moment) [ true ↦ [] | false ↦ m ∷ ms ])
 since_all true m ms f k = tt
 since_all false m ms f k = (f, k)
 
-all_since : (p : Moment → Bool) (ms : List Moment) → All ms → All (since p ms)
+all_since : (p : Moment → Bool) (ms : List Moment) → AllExist ms → AllExist (since p ms)
 all_since p [] k = tt
 all_since p (m ∷ ms) k = since_all (p m) m (since p ms) k.0 (all_since p ms k.1)
 
@@ -128,7 +128,7 @@ found_all : (o rest : Option Clock) → ((c : Clock) → o ≡ Some c → exists
 found_all (Some x) rest f g = f
 found_all None rest f g = g
 
-all_latest : (ms : List Moment) → All ms → (c : Clock) → latest (λ m. clock_write m.entry.outcome) ms ≡ Some c → exists c ≡ true
+all_latest : (ms : List Moment) → AllExist ms → (c : Clock) → latest (λ m. clock_write m.entry.outcome) ms ≡ Some c → exists c ≡ true
 all_latest [] k = none_found
 all_latest (m ∷ ms) k = found_all (clock_write m.entry.outcome) (latest (λ m. clock_write m.entry.outcome) ms) k.0 (all_latest ms k.1)
 

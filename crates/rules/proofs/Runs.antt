@@ -21,7 +21,7 @@ use Rattle.chip.specs.declared.registers.Section.TheVariants.{Alarm0}
 use Rattle.chip.specs.declared.wires.Edge.{Edge}
 use Rattle.chip.specs.declared.wires.Edge.TheVariants.{Fall, Still}
 use Rattle.chip.specs.declared.wires.Levels.{Levels}
-use Rattle.rules.specs.Past.{History, Moment, moments, latest, is_fall, is_none}
+use Rattle.rules.specs.Past.{History, Moment, moments, latest, is_fall, is_off}
 use Rattle.rules.specs.Wires as wires
 use Rattle.rules.specs.Frames.{Sample, in_frame, sampled, slave, area_read}
 use Rattle.rules.specs.Stored.{stored}
@@ -138,7 +138,7 @@ ticks_run zero h e = sums (ticks h)
     sums : (t : ℕ) → t ≡ 0 + t
     sums t = omega arith
 ticks_run (suc n) h e =
-    chosen (wires.supplied (run n h)) (suc (ticks (run n h))) (ticks (run n h)) (ap (λ p. not (is_none p)) (supply_run n h) ∙ e)
+    chosen (wires.supplied (run n h)) (suc (ticks (run n h))) (ticks (run n h)) (ap (λ p. not (is_off p)) (supply_run n h) ∙ e)
     ∙ (ap suc (ticks_run n h e) ∙ sums n (ticks h))
   where
     sums : (n t : ℕ) → suc (n + t) ≡ suc n + t
@@ -156,7 +156,7 @@ unmarked : (n : ℕ) (h : History) → wires.supplied h ≡ true → ticks h ≡
 unmarked n h e z l =
     let k : n < 32768 = omega arith in
     let a : n + 1 < 32768 = omega arith in
-    marks_where (run n h) (ap (λ p. not (is_none p)) (supply_run n h) ∙ e)
+    marks_where (run n h) (ap (λ p. not (is_off p)) (supply_run n h) ∙ e)
     ∙ (ap (λ d. not (ltb (d + 1) second) && not (rtcf (run n h))) (divider_run n h e z k)
     ∙ ap (λ b. not b && not (rtcf (run n h))) (lt-ltb (n + 1) second a))
 
@@ -165,7 +165,7 @@ full_mark : (n : ℕ) (h : History) → wires.supplied h ≡ true → ticks h �
 full_mark n h e z r l =
     let k : n < 32768 = omega arith in
     let a : 32768 ≤ n + 1 = omega arith in
-    marks_where (run n h) (ap (λ p. not (is_none p)) (supply_run n h) ∙ e)
+    marks_where (run n h) (ap (λ p. not (is_off p)) (supply_run n h) ∙ e)
     ∙ (ap₂ (λ d r. not (ltb (d + 1) second) && not r) (divider_run n h e z k) (rtcf_run n h ∙ r)
     ∙ ap (λ b. not b && true) (le-ltb (n + 1) second a))
 

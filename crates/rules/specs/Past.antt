@@ -100,10 +100,10 @@ is_main Off = false
 is_main Main = true
 is_main Battery = false
 
-abbrev pub is_none : Supply → Bool
-is_none Off = true
-is_none Main = false
-is_none Battery = false
+abbrev pub is_off : Supply → Bool
+is_off Off = true
+is_off Main = false
+is_off Battery = false
 
 -- The event ends main supply, or finds it ended.
 abbrev pub leaves_main : Event → Bool

@@ -10,7 +10,7 @@ use Rattle.chip.specs.declared.calls.Supply.TheVariants.{Off}
 use Rattle.chip.specs.declared.wires.Edge.{Edge}
 use Rattle.chip.specs.declared.wires.Edge.TheVariants.{Still}
 use Rattle.chip.specs.declared.wires.Levels.{Levels}
-use Rattle.rules.specs.Past.{History, Moment, moments, latest, since, any_of, count_of, levels_given, supply_given, is_tick, is_main, is_none, leaves_main, lawful_write}
+use Rattle.rules.specs.Past.{History, Moment, moments, latest, since, any_of, count_of, levels_given, supply_given, is_tick, is_main, is_off, leaves_main, lawful_write}
 
 -- The module begins with both levels high.
 abbrev pub both_high : Levels
@@ -28,7 +28,7 @@ abbrev pub on_main : History → Bool
 on_main h = is_main (supply h)
 
 abbrev pub supplied : History → Bool
-supplied h = not (is_none (supply h))
+supplied h = not (is_off (supply h))
 
 -- Whether the module pulls SDA.
 abbrev pub pulls : History → Bool
