@@ -23,7 +23,7 @@ fn send<M: Memory>(module: &mut Module, memory: &mut M, byte: u8) -> Result<bool
 }
 
 // A whole frame that writes one byte; answers whether that byte was acknowledged.
-pub fn write<M: Memory>(
+pub(crate) fn write<M: Memory>(
     module: &mut Module,
     memory: &mut M,
     slave: u8,
