@@ -3,6 +3,7 @@ ghost use Rattle.std.specs.Prelude.{◌≡◌, ◌%◌};
 ghost use Rattle.chip.specs.Counter.{address_in, next_written, next_read, at_status, takes_data};
 ghost use Rattle.chip.specs.Registers.{section_of};
 ghost use Rattle.chip.specs.Sizes.{register_space};
+ghost use Rattle.chip.specs.declared.slaves.Area.TheVariants.{Registers};
 
 use crate::pages::{ARRAY, next_in_array, next_in_page};
 use crate::registers::{REGISTER_SPACE, Section, next_register};
@@ -29,6 +30,17 @@ impl Area {
 }
 
 impl Address {
+    // The address of a register.
+    pub fn register(register: u16) -> Address
+        ensures area { result.area ≡ Registers }
+        ensures offset { result.offset ≡ register }
+    {
+        Address {
+            area: Area::Registers,
+            offset: register,
+        }
+    }
+
     // The section of the register that this address names.
     fn section(self) -> Option<Section>
         ensures { result ≡ section_of (self.offset % register_space) }

@@ -1,6 +1,9 @@
 // The registers: their sections, how an address moves inside one, and what a write may set of each.
 ghost use Rattle.std.specs.Prelude.{◌≡◌, ◌+◌, ◌<◌, ◌≤◌};
+ghost use Rattle.chip.specs.declared.slaves.Area.TheVariants.{Registers};
 ghost use Rattle.chip.specs.Registers.{section_of, first_of, length_of, next_in, next_register, masked};
+
+use crate::counter::Address;
 
 // The register addresses, most of them empty.
 pub const REGISTER_SPACE: u16 = 64;
@@ -46,6 +49,14 @@ impl Section {
             Section::Clock => 0x30,
             Section::Status => 0x3F,
         }
+    }
+
+    // The address of its first register.
+    pub fn address(self) -> Address
+        ensures area { result.area ≡ Registers }
+        ensures offset { result.offset ≡ first_of self }
+    {
+        Address::register(self.first())
     }
 
     // The number of its registers.
