@@ -1,9 +1,9 @@
 -- Dates that exist: eight good bytes are what their date says, and a date in range is said by good bytes. Assumes nothing.
-use Rattle.std.proofs.Common.{◌≡◌, ℕ, ◌+◌, ◌*◌, ◌/◌, ◌%◌, ◌≤◌, Bool, true, false, not, ◌&&◌, ◌||◌, eqb, leb, ◌⊎◌, is_some, Option, sym, refl, ap, ◌∙◌, subst, ⊎_elim, arith, lit≤}
+use Rattle.std.proofs.Common.{◌≡◌, ℕ, ◌+◌, ◌*◌, ◌/◌, ◌%◌, ◌≤◌, Bool, true, false, not, ◌&&◌, ◌||◌, eqb, leb, ◌⊎◌, is_some, Some, None, Option, sym, refl, ap, ◌∙◌, subst, ⊎_elim, arith, lit≤}
 use Rattle.std.specs.Option.{option_map}
 use Rattle.std.proofs.lemmas.Bool.{and_from, cases_order, eqb-true, false≢true, le-leb, leb-true, or_cases}
 use Rattle.calendar.specs.Clock.{register_number, start_date}
-use Rattle.calendar.specs.Dates.{date_of, day_of, exists, first_bad, in_month, unless}
+use Rattle.calendar.specs.Dates.{bad_register, date_of, day_of, exists, first_bad, in_month, unless}
 use Rattle.calendar.specs.Digits.{bcd_of, count_of, in_range}
 use Rattle.calendar.specs.Hours.{good_hours}
 use Rattle.calendar.specs.Next.{clock_of}
@@ -18,6 +18,15 @@ use Rattle.calendar.proofs.Lengths.{month_length_le}
 
 abbrev fine : Option Register → Bool
 fine bad = not (is_some (option_map register_number bad))
+
+-- Bytes exist as a date where no register is bad, and not where one is.
+pub exists_if : (c : Clock) → bad_register c ≡ None → exists c ≡ true
+unfolding first_bad
+exists_if c none = ap fine none
+
+pub exists_unless : (c : Clock) (register : Register) → bad_register c ≡ Some register → exists c ≡ false
+unfolding first_bad
+exists_unless c register some = ap fine some
 
 -- Every test of the eight bytes passes.
 pub record Good (c : Clock) : Type 0 where
