@@ -112,7 +112,7 @@ impl Clock {
         ensures same { IfOk result (λ clock. clock ≡ self) }
         ensures number { option_map register_number (result_err result) ≡ first_bad self }
     {
-        Date::try_from(self).map(|_| self)
+        Date::try_from(self).and(Ok(self))
     }
 
     // Whether the eight bytes are a date that exists.

@@ -1,7 +1,8 @@
 -- Each byte passed its test and gave its count, so what is left to test is the date in its month.
-use Rattle.std.proofs.Common.{◌≡◌, ℕ, ◌+◌, ◌*◌, Bool, true, false, cond, ◌||◌, eqb, leb, Some, None, Option, refl, sym, ap, ◌∙◌, arith}
+use Rattle.std.proofs.Common.{◌≡◌, ℕ, ◌+◌, ◌*◌, Bool, true, false, cond, ◌||◌, eqb, leb, Some, None, Option, Ok, Err, Result, refl, sym, ap, ◌∙◌, arith}
 use Rattle.std.specs.Bool.{then_some}
 use Rattle.std.specs.Option.{ok_or}
+use Rattle.std.specs.Result.{IsErrAnd}
 use Rattle.std.proofs.lemmas.Bool.{le-leb}
 use Rattle.std.proofs.lemmas.Bool.Decides.{nat_tests}
 use Rattle.std.proofs.lemmas.Option.{cond_some}
@@ -10,42 +11,45 @@ use Rattle.calendar.specs.Digits.{count_of, in_range}
 use Rattle.calendar.specs.Hours.{form_of, good_hours, hour_of}
 use Rattle.calendar.specs.declared.clock.Clock.{Clock}
 use Rattle.calendar.specs.declared.clock.Register.{Register}
-use Rattle.calendar.specs.declared.clock.Register.TheVariants.{Date as DateRegister}
+use Rattle.calendar.specs.declared.clock.Register.TheVariants.{Date as DateRegister, Month, Century}
 use Rattle.calendar.specs.declared.date.Date.{Date}
 use Rattle.calendar.proofs.Bytes.{in_range_true}
 use Rattle.calendar.proofs.date.DateTryFromClock.try_from.Goals as goal
 
-abbrev counted : ℕ → ℕ → ℕ → Option ℕ
-counted byte low high = cond (in_range byte low high) (Some (count_of byte)) None
+century_same : (b : ℕ) → (eqb b 0x19 || eqb b 0x20) ≡ in_range b 19 20
+century_same b = grind (arith, nat_tests)
 
-century_good : (b : ℕ) → in_range b 19 20 ≡ true → (eqb b 0x19 || eqb b 0x20) ≡ true
-century_good b e = let parts = in_range_true b 19 20 e in grind (arith, nat_tests)
+-- a byte that gave a count passed its test, and the count is its own
+read : (test : Bool) (v count : ℕ) (asked : Option ℕ) → asked ≡ cond test (Some v) None → asked ≡ Some count → (test ≡ true) × (v ≡ count)
+read test v count asked e there = cond_some test v count (sym e ∙ there)
 
 judged : (has_it : Bool) (d : Date) → ok_or (then_some has_it d) DateRegister ≡ unless_bad (unless has_it DateRegister None) d
 judged true d = refl
 judged false d = refl
 
-answer : (c : Clock) (d : Date) (century year : ℕ) → counted c.seconds 0 59 ≡ Some d.time.second → counted c.minutes 0 59 ≡ Some d.time.minute → cond (good_hours c.hours) (Some (hour_of c.hours)) None ≡ Some d.time.hour → counted c.date 1 31 ≡ Some d.day.date → counted c.month 1 12 ≡ Some d.day.month → counted c.year 0 99 ≡ Some year → leb c.weekday 6 ≡ true → counted c.century 19 20 ≡ Some century → d.day.year ≡ 100 * century + year → d.weekday ≡ c.weekday → d.form ≡ form_of c.hours → ok_or (then_some (in_month d.day) d) DateRegister ≡ unless_bad (bad_register c) (date_of c)
-answer c d century year s m h t n y w e year_same weekday_same form_same =
-    let second = cond_some _ _ _ s in
-    let minute = cond_some _ _ _ m in
-    let hour = cond_some _ _ _ h in
-    let date = cond_some _ _ _ t in
-    let month = cond_some _ _ _ n in
-    let years = cond_some _ _ _ y in
-    let centuries = cond_some _ _ _ e in
-    let tests : bad_register c ≡ unless (in_month (date_of c).day) DateRegister None = rw (second.0, minute.0, hour.0, date.0, month.0, years.0, w, century_good c.century centuries.0) refl in
+answer : (c : Clock) (d : Date) (century year : ℕ) → (in_range c.seconds 0 59 ≡ true) × (count_of c.seconds ≡ d.time.second) → (in_range c.minutes 0 59 ≡ true) × (count_of c.minutes ≡ d.time.minute) → (good_hours c.hours ≡ true) × (hour_of c.hours ≡ d.time.hour) → (in_range c.date 1 31 ≡ true) × (count_of c.date ≡ d.day.date) → (in_range c.month 1 12 ≡ true) × (count_of c.month ≡ d.day.month) → (in_range c.year 0 99 ≡ true) × (count_of c.year ≡ year) → leb c.weekday 6 ≡ true → (in_range c.century 19 20 ≡ true) × (count_of c.century ≡ century) → d.day.year ≡ 100 * century + year → d.weekday ≡ c.weekday → d.form ≡ form_of c.hours → ok_or (then_some (in_month d.day) d) DateRegister ≡ unless_bad (bad_register c) (date_of c)
+answer c d century year second minute hour date month years weekday centuries year_same weekday_same form_same =
+    let tests : bad_register c ≡ unless (in_month (date_of c).day) DateRegister None = rw (second.0, minute.0, hour.0, date.0, month.0, years.0, weekday, century_same c.century, centuries.0) refl in
     let year_read : 100 * count_of c.century + count_of c.year ≡ d.day.year = (λ k. 100 * centuries.1 k + years.1 k) ∙ sym year_same in
     let said : date_of c ≡ d =
-    λ k. record {
-      day = record { date = date.1 k; month = month.1 k; year = year_read k };
-      time = record { hour = hour.1 k; minute = minute.1 k; second = second.1 k };
-      weekday = sym weekday_same k;
-      form = sym form_same k;
-    }
+        λ k. record {
+          day = record { date = date.1 k; month = month.1 k; year = year_read k };
+          time = record { hour = hour.1 k; minute = minute.1 k; second = second.1 k };
+          weekday = sym weekday_same k;
+          form = sym form_same k;
+        }
     in
     judged (in_month d.day) d ∙ ap (λ (x : Date). unless_bad (unless (in_month x.day) DateRegister None) x) (sym said)
     ∙ ap (λ (bad : Option Register). unless_bad bad (date_of c)) (sym tests)
+
+-- one that gave none is to blame
+refused : (good : Bool) (count : ℕ) (o : Option ℕ) (register e : Register) (rest : Option Register) (d : Date) (r : Result Date Register) → o ≡ cond good (Some count) None → Err e ≡ ok_or o register → IsErrAnd r (λ x. x ≡ e) → r ≡ unless_bad (unless good register rest) d
+refused good count o register e rest d r given asked is = go good r (asked ∙ ap (λ (x : Option ℕ). ok_or x register) given) is
+  where
+    go : (good : Bool) (r : Result Date Register) → Err e ≡ ok_or (cond good (Some count) None) register → IsErrAnd r (λ x. x ≡ e) → r ≡ unless_bad (unless good register rest) d
+    go true r none is = absurd cc
+    go false (Ok x) some is = absurd is
+    go false (Err x) some is = cc
 
 pub returns : goal.returns
 returns c =
@@ -57,9 +61,31 @@ returns c =
       form = c.of.result;
     } in
     let asked : c.ok_or-8.result ≡ ok_or (then_some (in_month date.day) date) DateRegister =
-    c.ok_or-8.ensures.value ∙ ap (λ (o : Option Date). ok_or o DateRegister) (c.then_some.ensures ∙ ap (λ (has_it : Bool). then_some has_it date) c.is_in_month.ensures)
+        c.ok_or-8.ensures.value ∙ ap (λ (o : Option Date). ok_or o DateRegister) (c.then_some.ensures ∙ ap (λ (has_it : Bool). then_some has_it date) c.is_in_month.ensures)
     in
-    asked ∙ answer clock date c.from.result c.from-2.result (sym c.count_within.ensures ∙ c.in_ok-second.ensures.ok_part) (sym c.count_within-2.ensures ∙ c.in_ok-minute.ensures.ok_part)
-    (sym c.hour_of.ensures ∙ c.in_ok-hour.ensures.ok_part) (sym c.count_within-3.ensures ∙ c.in_ok-date.ensures.ok_part)
-    (sym c.count_within-4.ensures ∙ c.in_ok-month.ensures.ok_part) (sym c.count_within-5.ensures ∙ c.in_ok-year.ensures.ok_part ∙ ap (λ (n : ℕ). Some n) (sym c.from-2.ensures))
-    (le-leb _ _ c.if-clock-gt6.false) (sym c.count_within-6.ensures ∙ c.in_ok-century.ensures.ok_part ∙ ap (λ (n : ℕ). Some n) (sym c.from.ensures)) refl refl c.of.ensures
+    asked
+    ∙ answer clock date c.in_ok-century.century c.in_ok-year.year (read _ _ _ _ c.count_within.ensures c.in_ok-second.ensures.ok_part)
+    (read _ _ _ _ c.count_within-2.ensures c.in_ok-minute.ensures.ok_part) (read _ _ _ _ c.hour_of.ensures c.in_ok-hour.ensures.ok_part)
+    (read _ _ _ _ c.count_within-3.ensures c.in_ok-date.ensures.ok_part) (read _ _ _ _ c.count_within-4.ensures c.in_ok-month.ensures.ok_part)
+    (read _ _ _ _ c.count_within-5.ensures c.in_ok-year.ensures.ok_part) (le-leb _ _ c.if-clock-gt6.false)
+    (read _ _ _ _ c.count_within-6.ensures c.in_ok-century.ensures.ok_part) (λ k. 100 * c.from.ensures k + c.from-2.ensures k) refl c.of.ensures
+
+pub returns-in_err-month : goal.returns-in_err-month
+returns-in_err-month c =
+    let second = read _ _ _ _ c.count_within.ensures c.in_ok-second.ensures.ok_part in
+    let minute = read _ _ _ _ c.count_within-2.ensures c.in_ok-minute.ensures.ok_part in
+    let hour = read _ _ _ _ c.hour_of.ensures c.in_ok-hour.ensures.ok_part in
+    let date = read _ _ _ _ c.count_within-3.ensures c.in_ok-date.ensures.ok_part in
+    rw (second.0, minute.0, hour.0, date.0)
+    (refused _ _ _ Month _ _ _ _ c.count_within-4.ensures c.in_err-month.ensures.value c.from_residual-in_err-month.ensures.1)
+
+pub returns-in_err-century : goal.returns-in_err-century
+returns-in_err-century c =
+    let second = read _ _ _ _ c.count_within.ensures c.in_ok-second.ensures.ok_part in
+    let minute = read _ _ _ _ c.count_within-2.ensures c.in_ok-minute.ensures.ok_part in
+    let hour = read _ _ _ _ c.hour_of.ensures c.in_ok-hour.ensures.ok_part in
+    let date = read _ _ _ _ c.count_within-3.ensures c.in_ok-date.ensures.ok_part in
+    let month = read _ _ _ _ c.count_within-4.ensures c.in_ok-month.ensures.ok_part in
+    let year = read _ _ _ _ c.count_within-5.ensures c.in_ok-year.ensures.ok_part in
+    rw (second.0, minute.0, hour.0, date.0, month.0, year.0, le-leb _ _ c.if-clock-gt6.false, century_same c.args.clock.century)
+    (refused _ _ _ Century _ _ _ _ c.count_within-6.ensures c.in_err-century.ensures.value c.from_residual-in_err-century.ensures.1)
