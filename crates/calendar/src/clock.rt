@@ -69,6 +69,7 @@ impl Clock {
     };
 
     // The start date, which exists.
+    #[tactic(auto, unfolding(crate::specs::Dates::first_bad))]
     pub fn start() -> Clock
         ensures value { result ≡ start_date }
         ensures is_date { exists result ≡ true }

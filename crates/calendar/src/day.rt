@@ -90,6 +90,7 @@ impl Day {
     }
 
     // The days from 1 January 1900 to this one; nothing where the table or the year does not hold it.
+    #[tactic(auto, using(crate::proofs::Lengths::before_year_le))]
     pub fn number(self) -> Option<u32>
         ensures { result ≡ (if in_table self.year && in_year self.month then Some (day_number self) else None) }
     {

@@ -26,6 +26,7 @@ impl Case {
 }
 
 // Turns of the day, the month, the year and the calendar in both hour forms, and a date that does not exist.
+#[tactic(auto, unfolding(crate::specs::Dates::first_bad, crate::specs::Next::next))]
 pub fn worked_cases() -> [Case; 7]
     ensures value { result ≡ worked }
     ensures hold { AllByRecursion Holds worked }

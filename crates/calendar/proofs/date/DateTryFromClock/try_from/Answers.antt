@@ -1,10 +1,9 @@
 -- Each byte passed its test and gave its count, so what is left to test is the date in its month.
-use Rattle.std.proofs.Common.{◌≡◌, ℕ, ◌+◌, ◌*◌, Bool, true, false, cond, ◌||◌, eqb, leb, Some, None, Option, Ok, Err, Result, refl, sym, ap, ◌∙◌, arith}
+use Rattle.std.proofs.Common.{◌≡◌, ℕ, ◌+◌, ◌*◌, Bool, true, false, cond, leb, Some, None, Option, Ok, Err, Result, refl, sym, ap, ◌∙◌}
 use Rattle.std.specs.Bool.{then_some}
 use Rattle.std.specs.Option.{ok_or}
 use Rattle.std.specs.Result.{IsErrAnd}
 use Rattle.std.proofs.lemmas.Bool.{le-leb}
-use Rattle.std.proofs.lemmas.Bool.Decides.{nat_tests}
 use Rattle.std.proofs.lemmas.Option.{cond_some}
 use Rattle.calendar.specs.Dates.{bad_register, date_of, in_month, unless, unless_bad}
 use Rattle.calendar.specs.Digits.{count_of, in_range}
@@ -13,11 +12,8 @@ use Rattle.calendar.specs.declared.clock.Clock.{Clock}
 use Rattle.calendar.specs.declared.clock.Register.{Register}
 use Rattle.calendar.specs.declared.clock.Register.TheVariants.{Date as DateRegister, Month, Century}
 use Rattle.calendar.specs.declared.date.Date.{Date}
-use Rattle.calendar.proofs.Bytes.{in_range_true}
+use Rattle.calendar.proofs.Existing.{century_same}
 use Rattle.calendar.proofs.date.DateTryFromClock.try_from.Goals as goal
-
-century_same : (b : ℕ) → (eqb b 0x19 || eqb b 0x20) ≡ in_range b 19 20
-century_same b = grind (arith, nat_tests)
 
 -- a byte that gave a count passed its test, and the count is its own
 read : (test : Bool) (v count : ℕ) (asked : Option ℕ) → asked ≡ cond test (Some v) None → asked ≡ Some count → (test ≡ true) × (v ≡ count)

@@ -1,10 +1,9 @@
 -- The rule of the table, and the leap day after February.
 use Rattle.std.proofs.Common.{◌≡◌, ℕ, ◌+◌, ◌-◌, ◌≤◌, Bool, true, false, cond, ◌&&◌, eqb, ltb, Some, None, sym, refl, ap, ◌∙◌, arith}
 use mir.Val.{bool_byte}
-use Rattle.std.proofs.lemmas.Bool.{cond-true, eqb-true, ltb-true, lt-ltb}
+use Rattle.std.proofs.lemmas.Bool.{agree_below, agree_below_at, cond-true, eqb-true, ltb-true, lt-ltb}
 use Rattle.std.proofs.lemmas.Option.{cond_some}
 use Rattle.std.proofs.lemmas.Bool.Decides.{nat_tests}
-use Rattle.calendar.proofs.Bytes.{all_below, below_all}
 use Rattle.calendar.proofs.Sums.{laid_read}
 use Rattle.calendar.specs.Years.{days_before_month, in_year, leap_year, month_length_after, sum_below}
 use Rattle.calendar.specs.declared.day.TheConstants.{DAYS_BEFORE_MONTH}
@@ -14,7 +13,7 @@ use Rattle.calendar.proofs.day.Day.days_before_month.Goals as goal
 abbrev leap_test : Bool → ℕ → Bool
 leap_test leap k = eqb (sum_below (month_length_after leap) k) (sum_below (month_length_after false) k + bool_byte (ltb 1 k && leap))
 
-all_leap : (leap : Bool) → all_below (leap_test leap) 12 ≡ true
+all_leap : (leap : Bool) → agree_below (leap_test leap) (λ _. true) 12 ≡ true
 unfolding sum_below
 all_leap true = refl
 all_leap false = refl
@@ -23,7 +22,7 @@ with_leap_day : (leap b : Bool) (month place days : ℕ) → 1 ≤ month → pla
 with_leap_day leap b month place days from same read after =
     let there = cond_some (ltb place 12) (sum_below (month_length_after false) place) days (sym read) in
     let less = ltb-true place 12 there.0 in
-    let sums : sum_below (month_length_after leap) place ≡ sum_below (month_length_after false) place + bool_byte (ltb 1 place && leap) = eqb-true _ _ (below_all (leap_test leap) 12 (all_leap leap) place less) in
+    let sums : sum_below (month_length_after leap) place ≡ sum_below (month_length_after false) place + bool_byte (ltb 1 place && leap) = eqb-true _ _ (agree_below_at (leap_test leap) (λ _. true) 12 place (all_leap leap) less) in
     let test : (ltb 2 month) ≡ ltb 1 place = grind (arith, nat_tests) in
     let inside : in_year month ≡ true = grind (arith, nat_tests) in
     (λ k. Some (sym there.1 k + bool_byte ((after ∙ ap (λ (x : Bool). x && leap) test) k)))
