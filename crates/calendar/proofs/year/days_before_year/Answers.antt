@@ -1,5 +1,5 @@
 -- The table's rule: the test over its 200 entries is computed once.
-use Rattle.std.proofs.Common.{◌≡◌, ℕ, ◌-◌, ◌≤◌, cond, ltb, Some, None, Option, ◌∙◌, arith}
+use Rattle.std.proofs.Common.{◌≡◌, ℕ, ◌-◌, ◌≤◌, cond, ltb, Some, None, Option, refl, ◌∙◌, arith}
 use Rattle.std.proofs.lemmas.Bool.Decides.{nat_tests}
 use Rattle.calendar.proofs.Sums.{laid_read}
 use Rattle.calendar.specs.Years.{days_before_year, in_table, sum_below, year_length_after}
@@ -15,4 +15,4 @@ pub returns : goal.returns
 returns c =
     let place = c.in_ok-place.ensures in
     read_at c.args.year c.from.result c.copied.result place.0 (c.from.ensures ∙ place.1)
-    (c.copied.ensures ∙ laid_read year_length_after DAYS_BEFORE_YEAR tt c.from.result c.get.result c.get.ensures.lookup)
+    (c.copied.ensures ∙ laid_read year_length_after DAYS_BEFORE_YEAR refl c.from.result c.get.result c.get.ensures.lookup)

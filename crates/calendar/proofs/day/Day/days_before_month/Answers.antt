@@ -42,4 +42,4 @@ returns c =
     in
     ap (λ (n : ℕ). Some (c.in_ok-days.days + n)) c.from-2.ensures
     ∙ with_leap_day leap c.if-self-gt2.from month c.from.result c.in_ok-days.days place.0 (c.from.ensures ∙ place.1)
-    (c.in_ok-days.ensures ∙ laid_read (month_length_after false) DAYS_BEFORE_MONTH tt c.from.result c.get.result c.get.ensures.lookup) after
+    (c.in_ok-days.ensures ∙ laid_read (month_length_after false) DAYS_BEFORE_MONTH refl c.from.result c.get.result c.get.ensures.lookup) after
