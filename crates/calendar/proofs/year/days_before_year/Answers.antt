@@ -13,6 +13,5 @@ read_at year place r from same read =
 
 pub returns : goal.returns
 returns c =
-    let place = c.in_ok-place.ensures in
-    read_at c.args.year c.from.result c.copied.result place.0 (c.from.ensures ∙ place.1)
+    read_at c.args.year c.from.result c.copied.result (omega (arith, c.in_ok-place.ensures)) (omega (arith, c.in_ok-place.ensures))
     (c.copied.ensures ∙ laid_read year_length_after DAYS_BEFORE_YEAR refl c.from.result c.get.result c.get.ensures.lookup)
