@@ -106,7 +106,7 @@ impl Script {
     pub fn write_clock(&mut self, clock: Clock) -> Result<(), AllocError>
         ensures { OnOk result (self.new ≡ with_clock self.old clock) }
     {
-        self.write(Section::Clock.address(), &clock.bytes())?;
+        self.write(Section::Clock.address(), &<[u8; 8]>::from(clock))?;
         Ok(())
     }
 }

@@ -15,7 +15,7 @@ fn alarm<M: Memory>(fit: &Fit<M>, section: Section) -> Alarm
     ensures { result ≡ alarm fit.now.mem section }
 {
     let first = section.address().place();
-    Alarm::from_bytes(array::from_fn(|k| fit.byte(first + k)))
+    Alarm::from(array::from_fn(|k| fit.byte(first + k)))
 }
 
 impl Alarms {

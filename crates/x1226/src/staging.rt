@@ -48,8 +48,8 @@ impl Staging {
     pub fn joined_to(&self, copied: Clock) -> Clock
         ensures { result ≡ clock_joined copied self.now }
     {
-        let bytes = copied.bytes();
-        Clock::from_bytes(array::from_fn(|k| { self.held[CLOCK + k].unwrap_or(bytes[k]) }))
+        let bytes: [u8; 8] = copied.into();
+        Clock::from(array::from_fn(|k| { self.held[CLOCK + k].unwrap_or(bytes[k]) }))
     }
 }
 

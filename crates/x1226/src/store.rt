@@ -101,12 +101,10 @@ impl Staging {
         ensures { result ≡ date_asked latches self.now copied }
     {
         latches.check_rwel(self.address)?;
-        let asked = self.joined_to(copied);
-        match asked.first_bad() {
-            Some(register) => Err(Refusal::NotADate {
-                register: u16::from(register),
-            }),
-            None => Ok(asked),
-        }
+        self.joined_to(copied)
+            .checked()
+            .map_err(|register| Refusal::NotADate {
+                register: u8::from(register).into(),
+            })
     }
 }
