@@ -1,16 +1,16 @@
 -- What the bytes of an image are after a read and a write.
-use Rattle.std.proofs.Common.{◌≡◌, ℕ, ◌-◌, ◌%◌, ◌<◌, ◌≤◌, true, leb, List, map, length, get_or, take, set, Ok, sym, ap, ◌∙◌, mod-eq_of_lt, arith}
+use Rattle.std.proofs.Common.{◌≡◌, ℕ, ◌-◌, ◌%◌, ◌<◌, ◌≤◌, true, List, map, length, get_or, take, set, Ok, sym, ap, ◌∙◌, mod-eq_of_lt, arith}
 use Rattle.std.proofs.Math.Seq.{take-set-lt}
 use Rattle.std.proofs.lemmas.List.{length-take, get_or-map, get_or-take, map-set, length-set}
-use Rattle.std.proofs.lemmas.Bool.{and_parts, and_from, leb-true, le-leb}
-use Rattle.memory.specs.Sizes.{places, byte_values, most_writes}
+use Rattle.std.proofs.lemmas.Bool.Decides.{nat_tests}
+use Rattle.memory.specs.Sizes.{places, byte_values}
 use Rattle.memory.specs.Model.{place_check, write, with_byte}
 use Rattle.memory.specs.Image.{image, image_fit, image_bytes}
 use Rattle.memory.proofs.Rules.{place_passed, write_passed}
 
 -- A fit image has a byte for each place.
 pub image_long : (bs : List ℕ) (n : ℕ) → image_fit bs n ≡ true → places ≤ length bs
-image_long bs n fit = leb-true places (length bs) (and_parts (leb places (length bs)) (leb n most_writes) fit).0
+image_long bs n fit = grind (arith, nat_tests)
 
 -- Within the image the byte at a place is the byte handed in.
 pub image_at : (bs : List ℕ) (place : ℕ) → place < places → place < length bs → get_or (image_bytes bs) place 0 ≡ get_or bs place 0 % byte_values
@@ -29,10 +29,7 @@ image_set bs place byte low small =
 
 -- A fit image with a write less is fit.
 pub image_fit_less : (bs : List ℕ) (n place byte : ℕ) → image_fit bs n ≡ true → image_fit (set bs place byte) (n - 1) ≡ true
-image_fit_less bs n place byte fit =
-    let long = image_long bs n fit in
-    let few = leb-true n most_writes (and_parts (leb places (length bs)) (leb n most_writes) fit).1 in
-    and_from _ _ (le-leb places (length (set bs place byte)) (simp length-set (omega arith))) (le-leb (n - 1) most_writes (omega arith))
+image_fit_less bs n place byte fit = grind (arith, nat_tests, length-set)
 
 -- What a write that is made leaves of the image.
 pub image_put : (bs : List ℕ) (n place byte : ℕ) → byte < byte_values → write (image bs n) place ≡ Ok tt

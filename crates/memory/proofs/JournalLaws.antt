@@ -1,10 +1,11 @@
 -- What a journal holds after a record more, and after its bytes are laid down anew.
-use Rattle.std.proofs.Common.{◌≡◌, ℕ, zero, suc, ◌+◌, ◌-◌, ◌*◌, ◌<◌, ◌≤◌, Bool, true, false, cond, eqb, ltb, leb, List, [], ◌∷◌, ◌++◌, map, length, get_or, set, replicate, sym, refl, ap, ◌∙◌, subst, ⊎_elim, add-mul, one-mul, zero-mul, add-one, arith}
+use Rattle.std.proofs.Common.{◌≡◌, ℕ, zero, suc, ◌+◌, ◌-◌, ◌*◌, ◌<◌, ◌≤◌, Bool, true, false, cond, eqb, ltb, List, [], ◌∷◌, ◌++◌, map, length, get_or, set, replicate, sym, refl, ap, ◌∙◌, subst, ⊎_elim, add-mul, one-mul, zero-mul, add-one, arith}
 use Rattle.std.specs.List.{range_with_len, prefix_len}
 use Rattle.std.proofs.lemmas.List.FromFn.{map-range_with_len_more}
 use Rattle.std.proofs.lemmas.List.{length-set, length-append, length_push, length-replicate}
 use Rattle.std.proofs.lemmas.List.Sums.{prefix_len-le-length}
-use Rattle.std.proofs.lemmas.Bool.{and_parts, and_from, leb-true, le-leb, eqb-true, eqb-false, cond-true, cond-false, cases_order, lt-ltb, le-ltb, eq-eqb, ne_eqb}
+use Rattle.std.proofs.lemmas.Bool.Decides.{nat_tests}
+use Rattle.std.proofs.lemmas.Bool.{eqb-true, eqb-false, cond-true, cond-false, cases_order, lt-ltb, le-ltb}
 use Rattle.memory.specs.Sizes.{places, byte_values, fewest_words, most_words, most_erasures}
 use Rattle.memory.specs.Model.{with_byte}
 use Rattle.memory.specs.Journal.{blank, record_word, is_record, factory, byte_at, bytes_of, used_words, records, is_orderly, journal_fit, journal_life, journal, full, records_of, laid_down, with_room, erasures_after, words_after}
@@ -20,26 +21,19 @@ pub record Fit (ws : List ℕ) (e : ℕ) : Type 0 where
   pub tidy : is_orderly ws ≡ true
 
 pub fit_parts : (ws : List ℕ) (e : ℕ) → journal_fit ws e ≡ true → Fit ws e
-fit_parts ws e fit =
-    let a = and_parts (leb fewest_words (length ws)) _ fit in
-    let b = and_parts (leb (length ws) most_words) _ a.1 in
-    let c = and_parts (leb e most_erasures) (is_orderly ws) b.1 in
-    record { enough = leb-true _ _ a.0; few = leb-true _ _ b.0; erasures = leb-true _ _ c.0; tidy = c.1 }
+fit_parts ws e fit = record {
+  enough = grind (arith, nat_tests);
+  few = grind (arith, nat_tests);
+  erasures = grind (arith, nat_tests);
+  tidy = grind (arith, nat_tests);
+}
 
 pub fit_from : (ws : List ℕ) (e : ℕ) → Fit ws e → journal_fit ws e ≡ true
-fit_from ws e f =
-    and_from _ _ (le-leb fewest_words (length ws) f.enough)
-    (and_from _ _ (le-leb (length ws) most_words f.few) (and_from _ _ (le-leb e most_erasures f.erasures) f.tidy))
+fit_from ws e f = grind (arith, nat_tests, f.enough, f.few, f.erasures, f.tidy)
 
 -- The last of n numbers, or one before it.
 pick : (n k d : ℕ) (f : ℕ → ℕ) → cond (eqb n k) (f n) (cond (ltb k n) (f k) d) ≡ cond (ltb k (suc n)) (f k) d
-pick n k d f =
-    ⊎_elim
-    (λ same. cond-true (eqb n k) _ _ (eq-eqb n k same) ∙ ap f same ∙ sym (cond-true (ltb k (suc n)) _ _ (lt-ltb k (suc n) (omega arith))))
-    (⊎_elim
-    (λ below. cond-false (eqb n k) _ _ (ne_eqb n k (λ e. omega arith)) ∙ cond-false (ltb k n) _ _ (le-ltb k n (omega arith)) ∙ sym (cond-false (ltb k (suc n)) _ _ (le-ltb k (suc n) (omega arith))))
-    (λ above. cond-false (eqb n k) _ _ (ne_eqb n k (λ e. omega arith)) ∙ cond-true (ltb k n) _ _ (lt-ltb k n above) ∙ sym (cond-true (ltb k (suc n)) _ _ (lt-ltb k (suc n) (omega arith)))))
-    (cases_order n k)
+pick n k d f = grind (arith, nat_tests)
 
 -- Records of bytes in rising order give these bytes again.
 laid_at : (bs : List ℕ) (k n : ℕ) → n ≤ places → ((j : ℕ) → get_or bs j 0 < byte_values)

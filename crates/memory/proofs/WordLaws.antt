@@ -1,7 +1,7 @@
 -- Records, then blanks: what the words of a journal hold, and what a record more makes of them.
 use Rattle.std.proofs.Common.{◌≡◌, ℕ, zero, suc, ◌+◌, ◌-◌, ◌<◌, ◌≤◌, Bool, true, cond, eqb, List, [], ◌∷◌, ◌++◌, length, get_or, take, drop, set, replicate, sym, refl, ap, ◌∙◌, arith}
 use Rattle.std.specs.List.{prefix_len}
-use Rattle.std.proofs.lemmas.List.{length-drop, length-set, length-append, length_push, take_at, take-append-drop, drop_at, set_at, append_assoc, get_or-take}
+use Rattle.std.proofs.lemmas.List.{length-take, length-drop, length-set, length-append, length_push, take_at, take-append-drop, drop_at, set_at, append_assoc, get_or-take}
 use Rattle.std.proofs.lemmas.List.Folds.{length-prefix_len, prefix_len-append}
 use Rattle.std.proofs.lemmas.List.Sums.{prefix_len-le-length, prefix_len_is, prefix_len_passes}
 use Rattle.std.proofs.lemmas.Bool.{eq-eqb, eqb-true, and_parts, cond-true}
@@ -13,6 +13,12 @@ leading_append p xs ys all = prefix_len-append p xs ys ∙ cond-true _ _ _ (eq-e
 
 pub leading_all : (p : ℕ → Bool) (xs : List ℕ) → ((k : ℕ) → k < length xs → p (get_or xs k 0) ≡ true) → prefix_len p xs ≡ length xs
 leading_all p xs each = prefix_len_is p xs (length xs) 0 (omega arith) each (λ past. absurd (omega arith))
+
+-- Each word that is used is a record.
+pub used_is_record : (ws : List ℕ) (n i : ℕ) → n ≡ used_words ws → i < length (take n ws) → is_record (get_or (take n ws) i 0) ≡ true
+used_is_record ws n i counted within =
+    let front : i < n = omega (arith, length-take n ws) in
+    ap is_record (get_or-take n ws i 0 front) ∙ prefix_len_passes is_record ws i 0 (omega arith)
 
 blank_no_record : (n : ℕ) → prefix_len is_record (replicate n blank) ≡ 0
 blank_no_record zero = refl
@@ -76,8 +82,6 @@ laid_of ws tidy =
     let rest : length (drop n ws) ≡ length ws - length (records ws) = length-drop n ws ∙ omega (arith, long) in
     record {
       fits = omega (arith, long);
-      proper = leading_all is_record (records ws) (λ k below.
-          let front : k < n = omega (arith, long) in
-          ap is_record (get_or-take n ws k 0 front) ∙ prefix_len_passes is_record ws k 0 front);
+      proper = leading_all is_record (records ws) (λ k below. used_is_record ws n k refl below);
       shape = sym (take-append-drop n ws) ∙ ap (λ xs. take n ws ++ xs) (blanks_are (drop n ws) tidy ∙ ap (λ k. replicate k blank) rest);
     }

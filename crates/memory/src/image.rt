@@ -6,7 +6,7 @@ ghost use Rattle.memory.specs.Laws.{image_whole, image_lifeless};
 use crate::checked::{Checked, Keeper};
 use crate::sizes::{MOST_WRITES, PLACES};
 
-/// The byte at a place.
+/// The byte at a place. It is asked of the slice alone, whose items a proof knows to be bytes.
 fn byte_at(bytes: &[u8], place: usize) -> u8
     requires { place < length bytes.now }
     ensures { result ≡ slice_index bytes.now place }

@@ -1,5 +1,5 @@
 //! The journal: 32-bit words handed in, and an allowance of erasures.
-ghost use Rattle.std.specs.Prelude.{◌≡◌, ◌+◌, ◌-◌, ◌<◌, ◌≤◌, true, length, Ok, slice_set};
+ghost use Rattle.std.specs.Prelude.{◌≡◌, ◌+◌, ◌-◌, ◌<◌, ◌≤◌, true, length, slice_set};
 ghost use Rattle.memory.specs.Sizes.{places};
 ghost use Rattle.memory.specs.Model.{write};
 ghost use Rattle.memory.specs.Journal.{record_word, is_orderly, records, bytes_of, used_words, laid_down, with_room, words_after, erasures_after, journal};
@@ -26,9 +26,8 @@ impl Log<'_> {
     {
         let mut bytes = factory_bytes();
         for word in &self.words[..self.used] {
-            if let Ok(Record { place, byte }) = Record::try_from(*word) {
-                bytes[place] = byte;
-            }
+            let record = Record::of_word(*word);
+            bytes[record.place] = record.byte;
         }
         bytes
     }
@@ -91,15 +90,15 @@ impl Keeper for Log<'_> {
     }
 
     fn byte_at(&self, place: usize) -> u8 {
+        let used = self.used;
         let mut byte = factory_byte(place);
         // A rule prescribes this loop: over the words with their index, keeping the latest record of the place.
         for (i, word) in self.words.iter().enumerate() {
-            if i == self.used {
+            if i == used {
                 break;
             }
-            if let Ok(record) = Record::try_from(*word)
-                && record.place == place
-            {
+            let record = Record::of_word(*word);
+            if record.place == place {
                 byte = record.byte;
             }
         }

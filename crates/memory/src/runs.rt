@@ -1,7 +1,5 @@
 //! Work over any memory: a run of bytes stored or fetched as a whole, and a list of writes.
-ghost use Rattle.std.specs.Prelude.{◌≡◌, ◌+◌, ◌^◌, ◌<◌, ◌≤◌, true, length, is_ok, if◌then◌else◌, Ok};
-ghost use Rattle.memory.specs.Model.{Whole};
-ghost use Rattle.memory.specs.Sizes.{places};
+ghost use Rattle.std.specs.Prelude.{◌≡◌, ◌+◌, length, is_ok, if◌then◌else◌, Ok};
 ghost use Rattle.memory.specs.Runs.{life_answer, fetch, run_at, store, stored, with_run, after, made};
 
 use crate::Memory;

@@ -1,5 +1,5 @@
 //! The words of a journal: records at the front, then blanks.
-ghost use Rattle.std.specs.Prelude.{◌≡◌, ◌/◌, ◌%◌, ◌<◌, true, false, [], MatchResult, slice_index, ◌≤◌, ◌-◌, ◌++◌, length, replicate};
+ghost use Rattle.std.specs.Prelude.{◌≡◌, ◌/◌, ◌%◌, ◌<◌, true, [], ◌≤◌, ◌-◌, ◌++◌, length, replicate};
 ghost use Rattle.memory.specs.Sizes.{places, byte_values};
 ghost use Rattle.memory.specs.Journal.{blank, blanks, record_word, is_record, factory, bytes_of, used_words, records_of};
 
@@ -23,23 +23,25 @@ pub(crate) struct Record {
     ghost low: { place < places },
 }
 
-/// A word that is no record.
-#[derive(Clone, Copy)]
-pub(crate) struct NoRecord;
+/// Whether a word is a record.
+fn is_record(word: u32) -> bool
+    ensures { result ≡ is_record word }
+{
+    word < RECORD_LIMIT
+}
 
-impl TryFrom<u32> for Record {
-    type Error = NoRecord;
-
-    ghost try_from_gives = { λ word r. MatchResult r (λ made. (is_record word ≡ true) × (made.place ≡ word / byte_values) × (made.byte ≡ word % byte_values)) (λ _. is_record word ≡ false) };
-
-    fn try_from(word: u32) -> Result<Record, NoRecord> {
-        if word >= RECORD_LIMIT {
-            return Err(NoRecord);
-        }
-        Ok(Record {
+impl Record {
+    /// The record that a word is.
+    // No TryFrom: who asks knows that the word is a record.
+    pub(crate) fn of_word(word: u32) -> Record
+        requires { is_record word ≡ true }
+        ensures place { result.place ≡ word / byte_values }
+        ensures byte { result.byte ≡ word % byte_values }
+    {
+        Record {
             place: (word / BYTE_VALUES) as usize,
             byte: (word % BYTE_VALUES) as u8,
-        })
+        }
     }
 }
 
@@ -55,10 +57,7 @@ impl From<Record> for u32 {
 pub(crate) fn count_records(words: &[u32]) -> usize
     ensures { result ≡ used_words words.now }
 {
-    words
-        .iter()
-        .take_while(|word| Record::try_from(**word).is_ok())
-        .count()
+    words.iter().take_while(|word| is_record(**word)).count()
 }
 
 /// Whether the words are blanks only.
