@@ -26,7 +26,7 @@ pub trait Memory {
 
     /// Whether the memory is fit. An unfit memory refuses all else.
     fn is_fit(&self) -> bool
-        ensures { result ≡ (holds self.now).fit };
+        ensures answer { result ≡ (holds self.now).fit };
 
     /// The byte at a place.
     fn read(&self, place: usize) -> Result<u8, Refusal>
