@@ -45,9 +45,6 @@ passed : (good : Bool) (register : Register) (rest : Option Register) → fine (
 passed true register rest e = (refl, e)
 passed false register rest e = absurd (false≢true e)
 
-pass : (good : Bool) (register : Register) (rest : Option Register) → good ≡ true → fine rest ≡ true → fine (unless good register rest) ≡ true
-pass good register rest e f = rw e f
-
 pub good_from_exists : (c : Clock) → exists c ≡ true → Good c
 unfolding first_bad
 good_from_exists c e =
@@ -75,9 +72,7 @@ good_from_exists c e =
 pub exists_from_good : (c : Clock) → Good c → exists c ≡ true
 unfolding first_bad
 exists_from_good c g =
-    pass _ Seconds _ g.seconds_good (pass _ Minutes _ g.minutes_good (pass _ Hours _ g.hours_good (pass _ DateRegister _ g.date_good
-    (pass _ Month _ g.month_good (pass _ Year _ g.year_good (pass _ Weekday _ g.weekday_good (pass _ Century _ g.century_good
-    (pass _ DateRegister _ g.month_has_it refl))))))))
+    rw (g.seconds_good, g.minutes_good, g.hours_good, g.date_good, g.month_good, g.year_good, g.weekday_good, g.century_good, g.month_has_it) refl
 
 -- A century byte says 19 or 20.
 pub century_same : (b : ℕ) → (eqb b 0x19 || eqb b 0x20) ≡ in_range b 19 20

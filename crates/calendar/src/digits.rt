@@ -12,7 +12,7 @@ pub struct Digits {
 }
 
 impl Digits {
-    // The two digits of a count; of a count above 99 the last two. No `From`, since that count is then lost.
+    // The two digits of a count; of a count above 99 the last two. Not a `From`, which would hide that the rest of it is lost.
     pub fn of(count: u8) -> Digits
         ensures { AreDigits (count % 100) result }
     {

@@ -146,6 +146,7 @@ fn a_date_is_written(rt: HostRuntime) -> Result<(), Fail> {
         clock.joined(4, 0x02).to_string(rt.alloc())?.as_str(),
         "no date (register 33h)"
     );
+    assert_eq!(rt; Register::Date.to_string(rt.alloc())?.as_str(), "33h");
     Ok(())
 }
 

@@ -15,7 +15,7 @@ pub enum HourForm {
 }
 
 impl HourForm {
-    // Bit 7 of the hours byte means 24-hour form. No `From`, since the hour is lost.
+    // Bit 7 of the hours byte means 24-hour form. Not a `From`, which would hide that the hour is lost.
     pub fn of(hours: u8) -> HourForm
         ensures { result ≡ form_of hours }
     {
