@@ -1,4 +1,4 @@
-use Rattle.std.proofs.Common.{rules, ◌∙◌, sym}
+use Rattle.std.proofs.Common.{◌∙◌, sym}
 use Rattle.runlog.proofs.Numerals.{number_long, not_digits, digits_text, text_same, number_parsed}
 use Rattle.runlog.proofs.numbers.number.Goals as goal
 use Rattle.runlog.proofs.numbers.number.Goals.{then-word-gt-MOST_DIGITS-via-then-word-gt-MOST_DIGITS, then-word-gt-MOST_DIGITS-via-else-word-gt-MOST_DIGITS+then-not-are_digits}

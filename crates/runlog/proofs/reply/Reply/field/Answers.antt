@@ -1,12 +1,9 @@
-use Rattle.std.proofs.Common.{decimal, ap, ◌∙◌, arith}
-use Rattle.runlog.specs.Reply.{view, pushed}
-use Rattle.runlog.proofs.Replies.{appended_push}
+use Rattle.std.proofs.Common.{subst, ◌∙◌}
+use Rattle.runlog.specs.Reply.{Appends}
+use Rattle.runlog.proofs.Replies.{appends_append}
 use Rattle.runlog.proofs.reply.Reply.field.Goals as goal
 
-pub returns : goal.returns
-returns c =
-    record {
-      written = c.push.ensures ∙ ap (pushed c.args.end) c.number.ensures
-          ∙ appended_push (decimal c.args.n) c.args.end (view c.args.self.now);
-      small = omega arith;
-    }
+pub returns-clause-written : goal.returns-clause-written
+returns-clause-written c =
+    appends_append _ _ _ _ _ (subst (Appends c.args.self.now c.text.new.self) (c.as_bytes.ensures.value ∙ c.format.ensures.text) c.text.ensures)
+    c.text-2.ensures
