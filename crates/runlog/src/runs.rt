@@ -1,5 +1,5 @@
 // A log worked on a module, line by line.
-ghost use Rattle.std.specs.Prelude.{◌≡◌};
+ghost use Rattle.std.specs.Prelude.{◌≡◌, ◌≤◌, length, IfOk};
 ghost use Rattle.runlog.specs.Run.{run_log};
 
 use crate::board::Board;
@@ -28,6 +28,7 @@ pub fn run_log<M: Memory>(
     reply: &mut [u8],
 ) -> Result<usize, Refusal>
     ensures answer { result ≡ (run_log chip.old.state (M.holds memory.old) log.now reply.old).answer }
+    ensures within { IfOk result (λ written. written ≤ length reply.new) }
     ensures reply { reply.new ≡ (run_log chip.old.state (M.holds memory.old) log.now reply.old).reply }
     ensures state { chip.new.state ≡ (run_log chip.old.state (M.holds memory.old) log.now reply.old).state }
     ensures mem { M.holds memory.new ≡ (run_log chip.old.state (M.holds memory.old) log.now reply.old).mem }
