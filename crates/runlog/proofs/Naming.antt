@@ -3,7 +3,6 @@ use Rattle.std.proofs.Common.{◌≡◌, ℕ, suc, ◌+◌, ◌≤◌, Bool, tru
 use Rattle.std.specs.Bool.{then_some}
 use Rattle.std.specs.Str.{bytes_eq}
 use Rattle.std.proofs.lemmas.Bool.{cond-true, cond-false}
-use Rattle.std.proofs.lemmas.Slice.Eq.{bytes_eq-Decides}
 use Rattle.runlog.specs.declared.lines.Lines.{Lines}
 use Rattle.runlog.specs.Texts.{lf, in_front, pieces, lines}
 use Rattle.runlog.specs.Lines.{bytes_of, Values}
@@ -23,9 +22,8 @@ lines_most (x ∷ xs) = either_most (eqb x lf) x (length xs) (lines xs) (lines_m
 -- The first line is the names, or is not.
 pub names_first : (log first : List ℕ) (rest : Lines) (b : Bool) → lines log ≡ first ∷ lines rest.rest.now → b ≡ bytes_eq first names
     → Values log (then_some b rest)
-names_first log first rest true e is =
-    let long : length first ≡ 12 = ap length ((bytes_eq-Decides first names).0 (sym is)) in (
-      ap named e ∙ cond-true (bytes_eq first names) (Some (lines rest.rest.now)) None (sym is),
-      omega (arith, lines_most log, ap bytes_of e),
-    )
+names_first log first rest true e is = (
+  ap named e ∙ cond-true (bytes_eq first names) (Some (lines rest.rest.now)) None (sym is),
+  omega (arith, lines_most log, ap bytes_of e),
+)
 names_first log first rest false e is = ap named e ∙ cond-false (bytes_eq first names) (Some (lines rest.rest.now)) None (sym is)

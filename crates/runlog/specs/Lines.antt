@@ -9,8 +9,8 @@ abbrev pub bytes_of : List (List ℕ) → ℕ
 bytes_of [] = 0
 bytes_of (p ∷ ps) = length p + 1 + bytes_of ps
 
--- The value lines of a log whose first line is the names; the names with their LF are 13 bytes.
+-- The value lines of a log whose first line is the names; with an LF for each they are no longer than the log.
 abbrev pub Values : List ℕ → Option Lines → Type 0
 Values log r =
     MatchOption r (named (lines log) ≡ None)
-    (λ v. (named (lines log) ≡ Some (lines v.rest.now)) × (bytes_of (lines v.rest.now) + 13 ≤ length log + 1))
+    (λ v. (named (lines log) ≡ Some (lines v.rest.now)) × (bytes_of (lines v.rest.now) ≤ length log))

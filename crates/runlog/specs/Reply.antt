@@ -1,5 +1,5 @@
 -- The reply: its rows, their text, and the room that it is written to.
-use Rattle.std.specs.Prelude.{◌≡◌, ℕ, ◌+◌, Bool, cond, List, [], ◌∷◌, ◌++◌, length, Some, None, decimal, Option}
+use Rattle.std.specs.Prelude.{◌≡◌, ℕ, ◌+◌, ◌-◌, Bool, cond, List, [], ◌∷◌, ◌++◌, length, Some, None, decimal, Option}
 use Rattle.std.specs.List.{replace_range}
 use Rattle.chip.specs.Refusals.{report, area_number}
 use Rattle.chip.specs.declared.calls.Answer.{Answer}
@@ -31,6 +31,21 @@ abbrev pub row_text : Row → List ℕ
 row_text r =
     field r.line space
     ++ (field r.sda space ++ (field r.fault space ++ (field r.area space ++ field r.address lf)))
+
+-- The most bytes of a field, five digits and the byte that ends it, and of a row.
+abbrev pub most_field : ℕ
+most_field = 6
+
+abbrev pub most_row : ℕ
+most_row = 30
+
+-- Room that is enough for the rows of any log.
+abbrev pub rows_room : ℕ
+rows_room = 32000
+
+-- The bytes of the room that are not written yet.
+abbrev pub room_left : Reply → ℕ
+room_left r = length r.room.now - r.used
 
 -- The bytes of a text stand after those written before; the other bytes of the room are as they were, and it is the room that was lent.
 pub record Appends (before after : Reply) (text : List ℕ) : Type 0 where

@@ -4,8 +4,8 @@ ghost use Rattle.x1226.specs.Step.{told};
 ghost use Rattle.runlog.specs.Board.{IsLeft, told_of, called, lined, ran, logged};
 ghost use Rattle.runlog.specs.Calls.{calls_of};
 ghost use Rattle.runlog.specs.Lines.{bytes_of, Values};
-ghost use Rattle.runlog.specs.Reply.{Appends, row_text};
-ghost use Rattle.runlog.specs.Run.{most_log, least_reply, rows_text};
+ghost use Rattle.runlog.specs.Reply.{Appends, most_row, room_left, row_text, rows_room};
+ghost use Rattle.runlog.specs.Run.{most_log, rows_text};
 ghost use Rattle.runlog.specs.Texts.{lines};
 
 use crate::calls::LineCall;
@@ -47,7 +47,7 @@ impl<M: Memory> Board<'_, M> {
 
     // Makes the calls of a line, and answers what a board is told after the last of them.
     fn work(&mut self, line: LineCall) -> Answer
-        ensures left { IsLeft M.holds self.old self.new (called M.holds self.old (calls_of line)).state (called M.holds self.old (calls_of line)).mem }
+        ensures left { let l = called M.holds self.old (calls_of line) in IsLeft M.holds self.old self.new l.state l.mem }
         ensures answer { result ≡ told (called M.holds self.old (calls_of line)) }
     {
         let mut answer = self.told(None);
@@ -59,11 +59,11 @@ impl<M: Memory> Board<'_, M> {
 
     // Works a value line, and writes its row. Answers whether the line could be read.
     fn work_line(&mut self, reply: &mut Reply, number: u16, line: &[u8]) -> bool
-        requires { reply.old.used + 30 ≤ length reply.old.room.now }
+        requires { most_row ≤ room_left reply.old }
         ensures goes_on { result ≡ (lined M.holds self.old number line.now).goes_on }
-        ensures left { IsLeft M.holds self.old self.new (lined M.holds self.old number line.now).state (lined M.holds self.old number line.now).mem }
+        ensures left { let l = lined M.holds self.old number line.now in IsLeft M.holds self.old self.new l.state l.mem }
         ensures written { Appends reply.old reply.new (row_text (lined M.holds self.old number line.now).row) }
-        ensures short { reply.new.used ≤ reply.old.used + 30 }
+        ensures short { reply.new.used ≤ reply.old.used + most_row }
     {
         let Some(call) = LineCall::read(line) else {
             reply.row(Row::of(number, self.told(Some(Refusal::Unreadable))));
@@ -75,10 +75,9 @@ impl<M: Memory> Board<'_, M> {
 
     // Works value lines from line 2 on, up to the first that cannot be read.
     fn work_lines(&mut self, values: Lines, reply: &mut Reply)
-        requires few { bytes_of (lines values.rest.now) ≤ 8180 }
-        requires begun { reply.old.used ≤ 28 }
-        requires room { least_reply ≤ length reply.old.room.now }
-        ensures left { IsLeft M.holds self.old self.new (ran M.holds self.old values.entry.rest.now).state (ran M.holds self.old values.entry.rest.now).mem }
+        requires few { bytes_of (lines values.rest.now) ≤ most_log }
+        requires room { rows_room ≤ room_left reply.old }
+        ensures left { let r = ran M.holds self.old values.entry.rest.now in IsLeft M.holds self.old self.new r.state r.mem }
         ensures written { Appends reply.old reply.new (rows_text (ran M.holds self.old values.entry.rest.now).rows) }
     {
         for (number, line) in (2..).zip(values) {
@@ -91,9 +90,8 @@ impl<M: Memory> Board<'_, M> {
     // Works a log, and writes its rows.
     pub fn work_log(&mut self, log: &[u8], reply: &mut Reply)
         requires few { length log.now ≤ most_log }
-        requires begun { reply.old.used ≤ 28 }
-        requires room { least_reply ≤ length reply.old.room.now }
-        ensures left { IsLeft M.holds self.old self.new (logged M.holds self.old log.now).state (logged M.holds self.old log.now).mem }
+        requires room { rows_room ≤ room_left reply.old }
+        ensures left { let r = logged M.holds self.old log.now in IsLeft M.holds self.old self.new r.state r.mem }
         ensures written { Appends reply.old reply.new (rows_text (logged M.holds self.old log.now).rows) }
     {
         match values(log) {

@@ -53,11 +53,11 @@ pub struct Reply<'a> {
 }
 
 impl Reply<'_> {
-    ghost use Rattle.runlog.specs.Reply.{Appends, field, row_text};
+    ghost use Rattle.runlog.specs.Reply.{Appends, field, most_field, most_row, room_left, row_text};
 
     // The bytes of a text.
     pub fn text(&mut self, text: &[u8])
-        requires { self.old.used + length text.now ≤ length self.old.room.now }
+        requires { length text.now ≤ room_left self.old }
         ensures { Appends self.old self.new text.now }
     {
         let end = self.used + text.len();
@@ -67,19 +67,19 @@ impl Reply<'_> {
 
     // A number in decimal, and the byte that ends it.
     fn field(&mut self, number: u16, end: u8)
-        requires { self.old.used + 6 ≤ length self.old.room.now }
+        requires { most_field ≤ room_left self.old }
         ensures written { Appends self.old self.new (field number end) }
-        ensures short { self.new.used ≤ self.old.used + 6 }
+        ensures short { self.new.used ≤ self.old.used + most_field }
     {
         self.text(Buffer::new().format(number).as_bytes());
         self.text(&[end]);
     }
 
-    // A row, which takes 30 bytes at most.
+    // A row.
     pub fn row(&mut self, row: Row)
-        requires { self.old.used + 30 ≤ length self.old.room.now }
+        requires { most_row ≤ room_left self.old }
         ensures written { Appends self.old self.new (row_text row) }
-        ensures short { self.new.used ≤ self.old.used + 30 }
+        ensures short { self.new.used ≤ self.old.used + most_row }
     {
         self.field(row.line, SPACE);
         self.field(u16::from(row.sda), SPACE);
