@@ -14,7 +14,7 @@ use Rattle.runlog.specs.Reply.{Appends, row_text}
 use Rattle.runlog.specs.Run.{Lined, line_asks, Ran, after_line, lines_worked, rows_text}
 use Rattle.runlog.specs.Texts.{lines}
 use Rattle.runlog.proofs.Lengths.{readable_long}
-use Rattle.runlog.proofs.Replies.{appends_append, appends_none}
+use Rattle.runlog.proofs.Replies.{appends_append}
 
 after_true : (l : Lined) (r : Ran) → l.goes_on ≡ true → after_line l r ≡ record { rows = l.row ∷ r.rows; state = r.state; mem = r.mem }
 after_true l r h =
@@ -50,22 +50,6 @@ module _ {M : Type 0} (holds : M → Mem) where
   pub record Gone (start after : Board M) (begun reply : Reply) (text : List ℕ) : Type 0 where
     pub left : IsLeft holds start after (ran holds start text).state (ran holds start text).mem
     pub written : Appends begun reply (rows_text (ran holds start text).rows)
-
-  -- No line is worked yet.
-  pub going_none : (start : Board M) (reply : Reply) (text rest : List ℕ) (n : ℕ) → rest ≡ text → n ≡ 2
-      → Going start start reply reply text rest n
-  going_none start reply text rest n e two =
-      record {
-        chip = refl;
-        memory = refl;
-        done = [];
-        written = appends_none reply;
-        rows = λ i. rows_text (ahead (two i) (e i) start).rows;
-        state = λ i. (ahead (two i) (e i) start).state;
-        mem = λ i. (ahead (two i) (e i) start).mem;
-        room = omega (arith, ap (λ t. bytes_of (lines t)) e);
-        count = omega (arith, two, ap (λ t. bytes_of (lines t)) e);
-      }
 
   -- The same by another name of the line's number.
   going_at : (start now : Board M) (begun reply : Reply) (text rest : List ℕ) (n m : ℕ) → m ≡ n

@@ -13,10 +13,6 @@ use Rattle.std.proofs.lemmas.Str.{IsUtf8-from_ascii}
 use Rattle.std.proofs.lemmas.Str.Parse.{IsNumeralModel, numerals_by_fold, parse_digits}
 use Rattle.runlog.specs.Numbers.{value_after, value, number}
 
--- A word of too many digits is no number.
-pub number_long : (w : List ℕ) → 5 < length w → None ≡ number w
-number_long w h = grind (arith, nat_tests)
-
 none_unless : (a b d : Bool) (x : Option ℕ) → cond (a && (b && (false && d))) x None ≡ None
 none_unless true true d x = refl
 none_unless true false d x = refl

@@ -1,7 +1,7 @@
 -- Texts written one after the other.
-use Rattle.std.proofs.Common.{◌≡◌, ℕ, ◌+◌, ◌≤◌, List, ◌++◌, length, take, drop, refl, sym, ap, ◌∙◌, subst, arith, append_assoc, length-append, length-drop, []}
+use Rattle.std.proofs.Common.{◌≡◌, ℕ, ◌+◌, ◌≤◌, List, ◌++◌, length, take, drop, refl, sym, ap, ◌∙◌, subst, arith, append_assoc, length-append, length-drop}
 use Rattle.std.proofs.Math.Seq.{take-append_seam}
-use Rattle.std.proofs.lemmas.List.{length-take-le, take-append-drop, append-nil}
+use Rattle.std.proofs.lemmas.List.{length-take-le}
 use Rattle.std.proofs.lemmas.Slice.{drop-append-drop}
 use Rattle.std.specs.List.{replace_range}
 use Rattle.runlog.specs.declared.reply.Reply.{Reply}
@@ -33,16 +33,6 @@ appends_append a b c t u p q =
 -- A field by another name of its number.
 pub field_same : (a b : Reply) (n m end : ℕ) → n ≡ m → Appends a b (field n end) → Appends a b (field m end)
 field_same a b n m end e p = subst (λ k. Appends a b (field k end)) e p
-
--- No text.
-pub appends_none : (r : Reply) → Appends r r []
-appends_none r =
-    let e : r.used + 0 ≡ r.used = omega arith in
-    record {
-      bytes = sym (take-append-drop r.used r.room.now) ∙ (λ i. sym (append-nil (take r.used r.room.now)) i ++ drop (sym e i) r.room.now);
-      used = sym e;
-      loan = refl;
-    }
 
 -- The room does not shrink.
 pub appends_room : (a b : Reply) (t : List ℕ) → Appends a b t → length a.room.now ≤ length b.room.now

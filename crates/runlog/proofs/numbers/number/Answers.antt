@@ -1,14 +1,6 @@
 use Rattle.std.proofs.Common.{◌∙◌, sym}
-use Rattle.runlog.proofs.Numerals.{number_long, not_digits, digits_text, text_same, number_parsed}
+use Rattle.runlog.proofs.Numerals.{digits_text, text_same, number_parsed}
 use Rattle.runlog.proofs.numbers.number.Goals as goal
-use Rattle.runlog.proofs.numbers.number.Goals.{then-word-gt-MOST_DIGITS-via-then-word-gt-MOST_DIGITS, then-word-gt-MOST_DIGITS-via-else-word-gt-MOST_DIGITS+then-not-are_digits}
-
-pub returns-then-word-gt-MOST_DIGITS : goal.returns-then-word-gt-MOST_DIGITS
-returns-then-word-gt-MOST_DIGITS c =
-    elim c.then-word-gt-MOST_DIGITS.branch [
-      | then-word-gt-MOST_DIGITS-via-then-word-gt-MOST_DIGITS w ↦ number_long c.args.word.now w.if-word-gt-MOST_DIGITS.true
-      | then-word-gt-MOST_DIGITS-via-else-word-gt-MOST_DIGITS+then-not-are_digits w ↦ sym (not_digits c.args.word.now (sym w.if-not-are_digits.ensures))
-    ]
 
 pub returns-in_err-ok : goal.returns-in_err-ok
 returns-in_err-ok c =

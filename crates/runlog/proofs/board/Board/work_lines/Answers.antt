@@ -1,21 +1,6 @@
-use Rattle.std.proofs.Common.{◌≡◌, ◌-◌, ap, ◌∙◌, ⊎_elim, arith}
-use Rattle.runlog.specs.Lines.{bytes_of}
-use Rattle.runlog.proofs.Going.{going_none, going_more, going_stop, going_end}
-use Rattle.runlog.proofs.Replies.{appends_room}
+use Rattle.std.proofs.Common.{◌≡◌, ◌-◌, ⊎_elim, arith}
+use Rattle.runlog.proofs.Going.{going_more, going_stop, going_end}
 use Rattle.runlog.proofs.board.Board.work_lines.Goals as goal
-
-pub loop-number-init : goal.loop-number-init
-loop-number-init g c =
-    let zip = c.zip-number-items.ensures in
-    let is = c.into_iter-number-iterator.ensures.into_iter_gives in
-    going_none g.M.Memory.holds c.args.self.now c.args.reply.now c.args.values.rest.now _ _
-    (ap (λ z. z.b.rest.now) is ∙ ap (λ v. v.rest.now) zip.second) (ap (λ z. z.a.start) is ∙ ap (λ r. r.start) zip.first)
-
-pub work_line-requires : goal.work_line-requires
-work_line-requires g c =
-    let k = c.loop-number.invariant in
-    let steps = c.in-Some.ensures.steps in
-    omega (arith, appends_room _ _ _ k.written, ap bytes_of steps.1)
 
 pub returns-then-not-work_line : goal.returns-then-not-work_line
 returns-then-not-work_line g c =
