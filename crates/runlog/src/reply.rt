@@ -7,6 +7,7 @@ use chip::refusals::area_number;
 use itoa::Buffer;
 
 // A row of the reply: the number of the line, the level on SDA after it, and its refusal with area and address, or zeros.
+// Each is a number, since that is what a column of the reply holds.
 #[derive(Clone, Copy, PartialEq, Eq, Debug)]
 pub struct Row {
     pub line: u16,
@@ -45,6 +46,7 @@ impl Row {
 }
 
 // Room for a reply, of which the first `used` bytes are written.
+// The length stands beside the room: std's writers over a lent slice do not say what it holds once the loan is over.
 #[derive(Drop)]
 pub struct Reply<'a> {
     pub room: &'a mut [u8],
@@ -75,7 +77,7 @@ impl Reply<'_> {
         self.text(&[end]);
     }
 
-    // A row.
+    // A row, field by field: `write!` of a Display does not say that it succeeds, and a log that is run always has its reply.
     pub fn row(&mut self, row: Row)
         requires { most_row ≤ room_left self.old }
         ensures written { Appends self.old self.new (row_text row) }
