@@ -3,7 +3,6 @@ ghost use Rattle.std.specs.Prelude.{◌≡◌, ◌+◌, ◌≤◌, length};
 
 use crate::lines::{LF, SPACE};
 use chip::calls::Answer;
-use chip::refusals::area_number;
 use itoa::Buffer;
 
 // A row of the reply: the number of the line, the level on SDA after it, and its refusal with area and address, or zeros.
@@ -39,7 +38,7 @@ impl Row {
             line,
             sda,
             fault: report.number,
-            area: area_number(report.area),
+            area: report.area_number(),
             address: report.address,
         }
     }
