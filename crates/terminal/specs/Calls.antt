@@ -12,7 +12,7 @@ use Rattle.chip.specs.declared.calls.Call.{Call}
 use Rattle.chip.specs.declared.calls.Call.TheVariants.{Level, Tick, Supply as SupplyCall}
 use Rattle.chip.specs.declared.calls.Supply.{Supply}
 use Rattle.chip.specs.declared.slaves.Area.{Area}
-use Rattle.chip.specs.declared.slaves.Area.TheVariants.{Array, Registers}
+use Rattle.chip.specs.declared.slaves.Area.TheVariants.{Registers}
 use Rattle.terminal.specs.declared.script.Reply.{Reply}
 use Rattle.terminal.specs.declared.script.Reply.TheVariants.{More, Last}
 

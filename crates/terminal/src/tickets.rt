@@ -1,9 +1,12 @@
 // The time and the bill of a weighing.
 ghost use Rattle.std.specs.Prelude.{◌≡◌};
+ghost use Rattle.chip.specs.declared.slaves.Area.TheVariants.{Array};
 ghost use Rattle.ledger.specs.Layout.{tare_place, weighing_place};
 ghost use Rattle.terminal.specs.Stamps.{bill_of, clock_from, stamp_from};
 
 use calendar::Clock;
+use chip::counter::Address;
+use chip::slaves::Area;
 use ledger::{Invoice, LedgerError, Stamp, TARE_SIZE, Tare, WEIGHING_SIZE, Weighing};
 
 // The stamp of eight clock bytes.
@@ -41,17 +44,25 @@ pub fn clock_of(stamp: Stamp) -> Clock
 }
 
 // The address of a truck's tare.
-pub fn tare_address(truck: u8) -> u16
-    ensures { result ≡ tare_place truck }
+pub fn tare_address(truck: u8) -> Address
+    ensures area { result.area ≡ Array }
+    ensures offset { result.offset ≡ tare_place truck }
 {
-    8 * u16::from(truck)
+    Address {
+        area: Area::Array,
+        offset: 8 * u16::from(truck),
+    }
 }
 
 // The address of a ticket's weighing: behind sixteen tares.
-pub fn weighing_address(ticket: u8) -> u16
-    ensures { result ≡ weighing_place ticket }
+pub fn weighing_address(ticket: u8) -> Address
+    ensures area { result.area ≡ Array }
+    ensures offset { result.offset ≡ weighing_place ticket }
 {
-    128 + 16 * u16::from(ticket)
+    Address {
+        area: Area::Array,
+        offset: 128 + 16 * u16::from(ticket),
+    }
 }
 
 // The bill of a weighing by a tare, from the bytes of both.

@@ -1,4 +1,4 @@
-use Rattle.std.proofs.Common.{◌≡◌, length, drop, vec_items, sym, ap, ◌∙◌}
+use Rattle.std.proofs.Common.{◌≡◌, length, drop, sym, ap, ◌∙◌}
 use Rattle.law.specs.Run.{Lawful}
 use Rattle.terminal.proofs.Playing.{whole_script}
 use Rattle.terminal.proofs.rows.Rows.of.Goals as goal
