@@ -13,4 +13,4 @@ pub use error::BusError;
 pub use frames::Latch;
 pub use rows::{Rows, read_bytes, write_outcome};
 pub use script::{Reply, Script};
-pub use tickets::{bill, clock_of, stamp_of, tare_address, weighing_address};
+pub use tickets::{bill, tare_address, weighing_address};

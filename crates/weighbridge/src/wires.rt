@@ -4,13 +4,12 @@ use chip::calls::{Answer, Supply};
 use chip::counter::Address;
 use chip::registers::Section;
 use chip::slaves::Slave;
-use ledger::{Tare, Weighing};
+use ledger::{Record, Tare, Weighing};
 use memory::Memory;
 use std::alloc::{AllocError, Global};
 use std::io;
 use terminal::{
-    Latch, Reply, Rows, Script, bill, clock_of, read_bytes, stamp_of, tare_address,
-    weighing_address, write_outcome,
+    Latch, Reply, Rows, Script, bill, read_bytes, tare_address, weighing_address, write_outcome,
 };
 
 /// The ticks of a second, and of a write cycle.
@@ -202,7 +201,7 @@ impl Night {
         Weighing {
             truck,
             gross,
-            stamp: stamp_of(self.clock),
+            stamp: self.clock.into(),
         }
     }
 
@@ -330,7 +329,7 @@ fn show_ticket(rt: &impl Print, ticket: u8, rows: &[Answer]) -> io::Result<()> {
     };
     let truck = load.truck;
     let gross = load.gross;
-    let clock = clock_of(load.stamp);
+    let clock = Clock::from(load.stamp);
     println!(rt; "ticket {ticket} holds truck {truck}, gross {gross} kg, {clock}")
 }
 
@@ -350,7 +349,7 @@ fn show_bill(rt: &impl Print, ticket: u8, weighing: &[Answer], tare: &[Answer]) 
             let gross = invoice.gross;
             let tare = invoice.tare;
             let net = invoice.net;
-            let clock = clock_of(invoice.stamp);
+            let clock = Clock::from(invoice.stamp);
             println!(rt;
                 "ticket {ticket}, {clock}: truck {truck}, gross {gross} kg, tare {tare} kg, net {net} kg"
             )
@@ -381,7 +380,7 @@ fn show(rt: &impl Print, rows: &Rows, deed: Deed) -> io::Result<()> {
         }
         Deed::Weighed { ticket, load, mark } => {
             let gross = load.gross;
-            let clock = clock_of(load.stamp);
+            let clock = Clock::from(load.stamp);
             print!(rt; "store ticket {ticket}, gross {gross} kg, {clock}: ")?;
             show_write(rt, rows.from(mark), 16)
         }
