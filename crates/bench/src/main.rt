@@ -8,6 +8,7 @@ use memory::{Image, Memory, factory_bytes};
 use runlog::{LEAST_REPLY, MOST_LOG, run_log};
 use std::alloc::AllocError;
 use std::io::{Read, Write};
+use std::rt::Env;
 use std::{env, fmt, io};
 use x1226::Module;
 
@@ -72,78 +73,55 @@ impl From<AllocError> for Trouble {
     }
 }
 
-/// Reads a log into a buffer, up to its end or until the buffer is full; answers the bytes read.
-fn read_log(input: &mut impl Read, log: &mut [u8]) -> io::Result<usize>
-    ensures { IfOk result (λ used. used ≤ length log.new) }
-{
-    let mut used = 0;
-    for _ in 0..log.len() {
-        let count = input.read(&mut log[used..])?;
-        if count == 0 {
-            break;
-        }
-        used += count;
+impl From<Refusal> for Trouble {
+    fn from(refusal: Refusal) -> Trouble {
+        Trouble::Refused(refusal)
     }
-    Ok(used)
 }
 
-/// Works a log over a new module and a factory image, and writes the reply to standard output.
-fn answer(rt: &HostRuntime, log: &[u8], reply: &mut [u8]) -> Result<(), Trouble> {
+/// Reads a log up to its end, or up to the first byte that makes it too long.
+fn read_log(rt: &(impl Input + AllocGlobal)) -> Result<Vec<u8>, Trouble> {
+    let most = MOST_LOG + 1;
+    let mut log = Vec::with_capacity(rt.alloc(), most)?;
+    rt.reader()
+        .take(most as u64)
+        .read_to_end(&mut log)
+        .map_err(Trouble::Input)?;
+    Ok(log)
+}
+
+/// Works a log over a new module and a factory image; answers the bytes that the reply takes.
+fn answer(log: &[u8], reply: &mut [u8]) -> Result<usize, Refusal>
+    ensures { IfOk result (λ written. written ≤ length reply.new) }
+{
     let mut bytes = factory_bytes();
     let mut memory = Image::new(&mut bytes, WRITES);
-    let mut chip = Module::make();
-    let written = match run_log(&mut chip, &mut memory, log, reply) {
-        Ok(written) => written,
-        Err(refusal) => return Err(Trouble::Refused(refusal)),
-    };
-    match reply.get(0..written) {
-        Some(text) => put(rt, text),
-        None => Ok(()),
-    }
+    run_log(&mut Module::make(), &mut memory, log, reply)
 }
 
 /// Writes bytes to standard output.
-fn put(rt: &HostRuntime, text: &[u8]) -> Result<(), Trouble> {
-    match rt.stdout().write_all(text) {
-        Ok(()) => Ok(()),
-        Err(error) => Err(Trouble::Output(error)),
-    }
+fn put(rt: &impl Print, text: &[u8]) -> Result<(), Trouble> {
+    io::writer(rt).write_all(text).map_err(Trouble::Output)
 }
 
 /// Works the log on standard input.
-fn bench(rt: &HostRuntime) -> Result<(), Trouble> {
-    let mut log = vec![in rt.alloc(); 0u8; MOST_LOG + 1]?;
+fn bench(rt: &(impl Input + Print + AllocGlobal)) -> Result<(), Trouble> {
+    let log = read_log(rt)?;
     let mut reply = vec![in rt.alloc(); 0u8; LEAST_REPLY]?;
-    let used = match read_log(&mut rt.stdin(), &mut log) {
-        Ok(used) => used,
-        Err(error) => return Err(Trouble::Input(error)),
-    };
-    match log.get(0..used) {
-        Some(log) => answer(rt, log, &mut reply),
-        None => Ok(()),
-    }
+    let written = answer(&log, &mut reply)?;
+    put(rt, &reply[..written])
 }
 
-/// What the arguments ask for: help, or nothing but the log.
-fn work(rt: &HostRuntime) -> Result<(), Trouble> {
-    let Ok(words) = env::args(rt) else {
-        return Err(Trouble::Arguments);
-    };
-    let mut help = false;
-    let mut others = false;
-    for word in words.skip(1) {
-        if word.as_str() == "--help" {
-            help = true;
-        } else {
-            others = true;
-        }
-    }
-    if others {
-        Err(Trouble::Arguments)
-    } else if help {
+/// Does what the arguments ask for: help, or the log where there are none.
+fn work(rt: &(impl Input + Print + Env + AllocGlobal)) -> Result<(), Trouble> {
+    let words = env::args(rt).map_err(|_| Trouble::Arguments)?;
+    let mut words = words.skip(1).peekable();
+    if words.peek().is_none() {
+        bench(rt)
+    } else if words.all(|word| word.as_str() == "--help") {
         put(rt, HELP.as_bytes())
     } else {
-        bench(rt)
+        Err(Trouble::Arguments)
     }
 }
 

@@ -1,6 +1,6 @@
 -- Bytes and the counts that they hold: each gives the other back. Assumes nothing.
-use Rattle.std.proofs.Common.{◌≡◌, ℕ, zero, suc, ◌-◌, ◌%◌, ◌<◌, ◌≤◌, Bool, true, not, ◌&&◌, ◌||◌, eqb, ltb, ◌⊎◌, refl, ⊎_elim, arith}
-use Rattle.std.proofs.lemmas.Bool.{and_from, and_parts, both_ways, cases_lt, cases_order, cond-false, cond-true, eqb-true, le-leb, le-ltb, leb-true, lt-ltb, ltb-true, not-true, or_cases}
+use Rattle.std.proofs.Common.{◌≡◌, ℕ, ◌-◌, ◌%◌, ◌<◌, ◌≤◌, Bool, true, not, ◌&&◌, ◌||◌, eqb, ltb, refl, ⊎_elim, arith}
+use Rattle.std.proofs.lemmas.Bool.{agree_below, agree_below_at, and_from, and_parts, both_ways, cases_lt, cond-false, cond-true, eqb-true, le-leb, le-ltb, leb-true, lt-ltb, ltb-true, not-true, or_cases}
 use Rattle.calendar.specs.Digits.{bcd_of, count_of, in_range}
 use Rattle.calendar.specs.Hours.{form_of, good_hours, hour_of, hours_byte}
 use Rattle.calendar.specs.declared.time.HourForm.{HourForm}
@@ -17,26 +17,12 @@ in_range_true byte low high e =
     let q = and_parts _ _ p.1 in
     record { digit = ltb-true _ _ p.0; from_low = leb-true _ _ q.0; to_high = leb-true _ _ q.1 }
 
--- A test that passes at each number below n: computed once, it holds at each.
-abbrev pub all_below : (ℕ → Bool) → ℕ → Bool
-all_below p zero = true
-all_below p (suc n) = p n && all_below p n
-
-pub below_all : (p : ℕ → Bool) (n : ℕ) → all_below p n ≡ true → (k : ℕ) → k < n → p k ≡ true
-below_all p zero e k h = absurd (omega arith)
-below_all p (suc n) e k h =
-    let parts = and_parts (p n) (all_below p n) e in
-    ⊎_elim (λ (same : k ≡ n). rw same parts.0) (λ (less : k < n). below_all p n parts.1 k less) (last_or_below k n h)
-  where
-    last_or_below : (k n : ℕ) → k < suc n → (k ≡ n) ⊎ (k < n)
-    last_or_below k n h = grind (arith, cases_order k n)
-
 pub count_back : (byte low high : ℕ) → high ≤ 99 → InRange byte low high → bcd_of (count_of byte) ≡ byte
 count_back byte low high small held = omega arith
 
 -- The byte of a count up to 99 holds that count.
 pub bcd_holds : (n : ℕ) → n ≤ 99 → InRange (bcd_of n) n n
-bcd_holds n small = in_range_true (bcd_of n) n n (below_all (λ k. in_range (bcd_of k) k k) 100 refl n (omega arith))
+bcd_holds n small = in_range_true (bcd_of n) n n (agree_below_at (λ k. in_range (bcd_of k) k k) (λ _. true) 100 n refl (omega arith))
 
 pub bcd_back : (n : ℕ) → n ≤ 99 → count_of (bcd_of n) ≡ n
 bcd_back n small = omega (arith, (bcd_holds n small).from_low, (bcd_holds n small).to_high)
@@ -60,7 +46,7 @@ hours_byte_small b good = ⊎_elim (λ (less : b < 0x80). omega arith) over (cas
 
 pub hours_back : (b : ℕ) → good_hours b ≡ true → (hour_of b < 24) × (hours_byte (hour_of b) (form_of b) ≡ b)
 hours_back b good =
-    let test = below_all hours_test 256 refl b (hours_byte_small b good) in
+    let test = agree_below_at hours_test (λ _. true) 256 b refl (hours_byte_small b good) in
     let parts = and_parts _ _ (⊎_elim (λ (bad : not (good_hours b) ≡ true). absurd (both_ways (good_hours b) (not-true _ bad) good)) (λ t. t) (or_cases _ _ test)) in
     (ltb-true _ _ parts.0, eqb-true _ _ parts.1)
 
@@ -82,12 +68,12 @@ abbrev shown_test : HourForm → ℕ → Bool
 shown_test form hour =
     good_hours (hours_byte hour form) && (eqb (hour_of (hours_byte hour form)) hour && same_form form (hours_byte hour form))
 
-all_shown : (form : HourForm) → all_below (shown_test form) 24 ≡ true
+all_shown : (form : HourForm) → agree_below (shown_test form) (λ _. true) 24 ≡ true
 all_shown TwelveHour = refl
 all_shown TwentyFourHour = refl
 
 pub hours_shown : (hour : ℕ) (form : HourForm) → hour < 24 → ShowsHour hour form (hours_byte hour form)
 hours_shown hour form small =
-    let parts = and_parts _ _ (below_all (shown_test form) 24 (all_shown form) hour small) in
+    let parts = and_parts _ _ (agree_below_at (shown_test form) (λ _. true) 24 hour (all_shown form) small) in
     let rest = and_parts _ _ parts.1 in
     record { good = parts.0; hour_back = eqb-true _ _ rest.0; form_back = form_same form (hours_byte hour form) rest.1 }

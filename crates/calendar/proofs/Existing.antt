@@ -1,9 +1,10 @@
 -- Dates that exist: eight good bytes are what their date says, and a date in range is said by good bytes. Assumes nothing.
-use Rattle.std.proofs.Common.{◌≡◌, ℕ, ◌+◌, ◌*◌, ◌/◌, ◌%◌, ◌≤◌, Bool, true, false, not, ◌&&◌, ◌||◌, eqb, leb, ◌⊎◌, is_some, Option, sym, refl, ap, ◌∙◌, subst, ⊎_elim, arith, lit≤}
+use Rattle.std.proofs.Common.{◌≡◌, ℕ, ◌+◌, ◌*◌, ◌/◌, ◌%◌, ◌≤◌, Bool, true, false, not, ◌&&◌, ◌||◌, eqb, leb, is_some, Some, None, Option, sym, refl, ap, ◌∙◌, arith, lit≤}
 use Rattle.std.specs.Option.{option_map}
-use Rattle.std.proofs.lemmas.Bool.{and_from, cases_order, eqb-true, false≢true, le-leb, leb-true, or_cases}
+use Rattle.std.proofs.lemmas.Bool.Decides.{nat_tests}
+use Rattle.std.proofs.lemmas.Bool.{and_from, false≢true, le-leb, leb-true}
 use Rattle.calendar.specs.Clock.{register_number, start_date}
-use Rattle.calendar.specs.Dates.{date_of, day_of, exists, first_bad, in_month, unless}
+use Rattle.calendar.specs.Dates.{bad_register, date_of, day_of, exists, first_bad, in_month, unless}
 use Rattle.calendar.specs.Digits.{bcd_of, count_of, in_range}
 use Rattle.calendar.specs.Hours.{good_hours}
 use Rattle.calendar.specs.Next.{clock_of}
@@ -18,6 +19,15 @@ use Rattle.calendar.proofs.Lengths.{month_length_le}
 
 abbrev fine : Option Register → Bool
 fine bad = not (is_some (option_map register_number bad))
+
+-- Bytes exist as a date where no register is bad, and not where one is.
+pub exists_if : (c : Clock) → bad_register c ≡ None → exists c ≡ true
+unfolding first_bad
+exists_if c none = ap fine none
+
+pub exists_unless : (c : Clock) (register : Register) → bad_register c ≡ Some register → exists c ≡ false
+unfolding first_bad
+exists_unless c register some = ap fine some
 
 -- Every test of the eight bytes passes.
 pub record Good (c : Clock) : Type 0 where
@@ -34,9 +44,6 @@ pub record Good (c : Clock) : Type 0 where
 passed : (good : Bool) (register : Register) (rest : Option Register) → fine (unless good register rest) ≡ true → (good ≡ true) × (fine rest ≡ true)
 passed true register rest e = (refl, e)
 passed false register rest e = absurd (false≢true e)
-
-pass : (good : Bool) (register : Register) (rest : Option Register) → good ≡ true → fine rest ≡ true → fine (unless good register rest) ≡ true
-pass good register rest e f = rw e f
 
 pub good_from_exists : (c : Clock) → exists c ≡ true → Good c
 unfolding first_bad
@@ -65,36 +72,11 @@ good_from_exists c e =
 pub exists_from_good : (c : Clock) → Good c → exists c ≡ true
 unfolding first_bad
 exists_from_good c g =
-    pass _ Seconds _ g.seconds_good (pass _ Minutes _ g.minutes_good (pass _ Hours _ g.hours_good (pass _ DateRegister _ g.date_good
-    (pass _ Month _ g.month_good (pass _ Year _ g.year_good (pass _ Weekday _ g.weekday_good (pass _ Century _ g.century_good
-    (pass _ DateRegister _ g.month_has_it refl))))))))
+    rw (g.seconds_good, g.minutes_good, g.hours_good, g.date_good, g.month_good, g.year_good, g.weekday_good, g.century_good, g.month_has_it) refl
 
 -- A century byte says 19 or 20.
-record SaysCentury (b : ℕ) : Type 0 where
-  from_19 : 19 ≤ count_of b
-  to_20 : count_of b ≤ 20
-  byte_back : bcd_of (count_of b) ≡ b
-
-century_known : (b : ℕ) → (eqb b 0x19 || eqb b 0x20) ≡ true → SaysCentury b
-century_known b e =
-    ⊎_elim (λ (x : eqb b 0x19 ≡ true). known b 0x19 (eqb-true b 0x19 x) the_19) (λ (x : eqb b 0x20 ≡ true). known b 0x20 (eqb-true b 0x20 x) the_20)
-    (or_cases _ _ e)
-  where
-    known : (b v : ℕ) → b ≡ v → SaysCentury v → SaysCentury b
-    known b v same h = subst SaysCentury (sym same) h
-
-    the_19 : SaysCentury 0x19
-    the_19 = record { from_19 = lit≤ tt; to_20 = lit≤ tt; byte_back = refl }
-
-    the_20 : SaysCentury 0x20
-    the_20 = record { from_19 = lit≤ tt; to_20 = lit≤ tt; byte_back = refl }
-
-century_byte : (n : ℕ) → 19 ≤ n → n ≤ 20 → (eqb (bcd_of n) 0x19 || eqb (bcd_of n) 0x20) ≡ true
-century_byte n from to =
-    ⊎_elim (λ (e : n ≡ 19). rw e refl) (λ (e : n ≡ 20). rw e refl) (which n from to)
-  where
-    which : (n : ℕ) → 19 ≤ n → n ≤ 20 → (n ≡ 19) ⊎ (n ≡ 20)
-    which n from to = grind (arith, cases_order n 19)
+pub century_same : (b : ℕ) → (eqb b 0x19 || eqb b 0x20) ≡ in_range b 19 20
+century_same b = grind (arith, nat_tests)
 
 year_parts : (century year : ℕ) → year ≤ 99 → ((100 * century + year) % 100 ≡ year) × ((100 * century + year) / 100 ≡ century)
 year_parts century year small = (omega arith, omega arith)
@@ -113,11 +95,11 @@ date_in_range c g =
     let date = in_range_true c.date 1 31 g.date_good in
     let minute = in_range_true c.minutes 0 59 g.minutes_good in
     let second = in_range_true c.seconds 0 59 g.seconds_good in
-    let century = century_known c.century g.century_good in
+    let century = in_range_true c.century 19 20 (sym (century_same c.century) ∙ g.century_good) in
     record {
       is_day = record {
-        from_1900 = omega (arith, century.from_19);
-        to_2099 = omega (arith, century.to_20, year.to_high);
+        from_1900 = omega (arith, century.from_low);
+        to_2099 = omega (arith, century.to_high, year.to_high);
         from_january = month.from_low;
         to_december = month.to_high;
         from_first = date.from_low;
@@ -135,7 +117,7 @@ date_in_range c g =
 pub clock_back : (c : Clock) → Good c → clock_of (date_of c) ≡ c
 clock_back c g =
     let year = in_range_true c.year 0 99 g.year_good in
-    let century = century_known c.century g.century_good in
+    let century = in_range_true c.century 19 20 (sym (century_same c.century) ∙ g.century_good) in
     let parts = year_parts (count_of c.century) (count_of c.year) year.to_high in
     let seconds-back = count_back c.seconds 0 59 (lit≤ tt) (in_range_true c.seconds 0 59 g.seconds_good) in
     let minutes-back = count_back c.minutes 0 59 (lit≤ tt) (in_range_true c.minutes 0 59 g.minutes_good) in
@@ -143,7 +125,7 @@ clock_back c g =
     let date-same = count_back c.date 1 31 (lit≤ tt) (in_range_true c.date 1 31 g.date_good) in
     let month-same = count_back c.month 1 12 (lit≤ tt) (in_range_true c.month 1 12 g.month_good) in
     let year-same = ap bcd_of parts.0 ∙ count_back c.year 0 99 (lit≤ tt) year in
-    let century-same = ap bcd_of parts.1 ∙ century.byte_back in
+    let century-same = ap bcd_of parts.1 ∙ count_back c.century 19 20 (lit≤ tt) century in
     λ k. record {
       seconds = seconds-back k;
       minutes = minutes-back k;
@@ -184,7 +166,7 @@ date_good d i =
       month_good = bcd_in_range d.day.month 1 12 i.is_day.from_january i.is_day.to_december (lit≤ tt);
       year_good = bcd_in_range (d.day.year % 100) 0 99 (omega arith) (omega arith) (lit≤ tt);
       weekday_good = le-leb d.weekday 6 (omega arith);
-      century_good = century_byte (d.day.year / 100) (omega arith) (omega arith);
+      century_good = century_same (bcd_of (d.day.year / 100)) ∙ bcd_in_range (d.day.year / 100) 19 20 (omega arith) (omega arith) (lit≤ tt);
       month_has_it = ap (λ (x : Date). in_month x.day) (date_back d i) ∙ le-leb _ _ i.is_day.to_last;
     }
 

@@ -1,18 +1,17 @@
 -- How long years and months are. Assumes nothing.
-use Rattle.std.proofs.Common.{◌≡◌, ℕ, ◌+◌, ◌-◌, ◌≤◌, Bool, true, false, cond, Some, None, refl, arith}
-use Rattle.std.proofs.lemmas.Bool.{cond_both}
+use Rattle.std.proofs.Common.{◌≡◌, ℕ, ◌+◌, ◌-◌, ◌≤◌, Bool, true, false, cond, Some, None, sym, refl, arith}
 use Rattle.std.proofs.lemmas.Bool.Decides.{nat_tests}
-use Rattle.calendar.specs.Years.{days_before_year, in_table, leap_year, month_length, month_length_after, sum_below, year_length, year_length_after}
-use Rattle.calendar.proofs.Answered.{some_if}
+use Rattle.calendar.specs.Years.{days_before_year, in_table, month_length, month_length_after, sum_below, year_length, year_length_after}
+use Rattle.std.proofs.lemmas.Option.{cond_some}
 use Rattle.calendar.proofs.Sums.{sum_le}
 
 pub year_length_le : (year : ℕ) → year_length year ≤ 366
-year_length_le year = cond_both (leap_year year) 366 365 (λ x. x ≤ 366) (λ _. omega arith) (λ _. omega arith)
+year_length_le year = grind (arith, nat_tests)
 
 -- The table's numbers are small.
 pub before_year_le : (year d : ℕ) → Some d ≡ cond (in_table year) (Some (days_before_year year)) None → d ≤ 73200
 before_year_le year d e =
-    let h = some_if (in_table year) (days_before_year year) d e in
+    let h = cond_some (in_table year) (days_before_year year) d (sym e) in
     let bound = sum_le year_length_after 366 (λ k. year_length_le (1900 + k)) (year - 1900) in
     grind (arith, nat_tests, h.0, h.1, bound)
 

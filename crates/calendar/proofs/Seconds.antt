@@ -105,14 +105,6 @@ pub next_rolls : (c : Clock) → exists c ≡ true → number c + 1 ≡ first_se
 next_rolls c stands last = (next_plus c stands).number_moved ∙ ap rolled last ∙ rolled_end
 
 -- n steps of one second give a date that exists, and the date plus n seconds.
-pub after_zero : (c : Clock) → after c 0 ≡ c
-unfolding after
-after_zero c = refl
-
-pub after_more : (c : Clock) (n : ℕ) → after c (n + 1) ≡ next (after c n)
-unfolding after
-after_more c n = ap (after c) (add-one n)
-
 pub after_exists : (c : Clock) (n : ℕ) → exists c ≡ true → exists (after c n) ≡ true
 unfolding after
 after_exists c zero stands = stands

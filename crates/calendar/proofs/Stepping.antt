@@ -1,5 +1,6 @@
 -- One second later, by times, days and dates. Assumes nothing.
 use Rattle.std.proofs.Common.{◌≡◌, ℕ, ◌+◌, ◌-◌, ◌*◌, ◌%◌, ◌<◌, ◌≤◌, Bool, cond, ltb, Some, None, Option, sym, refl, ap, ◌∙◌, arith, lit≤}
+use Rattle.std.proofs.lemmas.Bool.Decides.{nat_tests}
 use Rattle.std.proofs.lemmas.Bool.{cond_both, cond-false, cond-true, le-ltb, lt-ltb, ltb-false, ltb-true}
 use Rattle.calendar.specs.Dates.{day_number, midnights, rolled, second_of_day, seconds_of}
 use Rattle.calendar.specs.Next.{date_after, day_after, moved, time_after, weekday_after}
@@ -170,13 +171,10 @@ weekday_stays : (weekday n : ℕ) → weekday < 7 → n ≡ 0 → weekday ≡ (w
 weekday_stays weekday n small none = omega arith
 
 weekday_moves : (weekday n : ℕ) → weekday < 7 → n ≡ 1 → weekday_after weekday ≡ (weekday + n) % 7
-weekday_moves weekday n small one =
-    cond_both (ltb weekday 6) (weekday + 1) 0 (λ w. w ≡ (weekday + n) % 7) (λ e. let less = ltb-true weekday 6 e in omega arith)
-    (λ e. let last = ltb-false weekday 6 e in omega arith)
+weekday_moves weekday n small one = grind (arith, nat_tests)
 
 weekday_after_small : (weekday : ℕ) → weekday_after weekday < 7
-weekday_after_small weekday =
-    cond_both (ltb weekday 6) (weekday + 1) 0 (λ w. w < 7) (λ e. let less = ltb-true weekday 6 e in omega arith) (λ e. lit≤ tt)
+weekday_after_small weekday = grind (arith, nat_tests)
 
 pub record DateStep (d e : Date) : Type 0 where
   pub is_date : IsDate e

@@ -1,6 +1,8 @@
 -- Sums of the first lengths of a row, and tables that hold them. Assumes nothing.
-use Rattle.std.proofs.Common.{◌≡◌, ℕ, zero, suc, ◌+◌, ◌-◌, ◌*◌, ◌<◌, ◌≤◌, Bool, true, false, ◌&&◌, T, eqb, ◌⊎◌, List, [], ◌∷◌, length, get_or, sym, refl, ap, subst, inl, inr, le_of_suc-le-suc, not-suc-le-zero, add-mul, add-one, arith, eqb→eq}
-use Rattle.std.proofs.lemmas.Bool.{cases_order}
+use Rattle.std.proofs.Common.{◌≡◌, ℕ, zero, suc, ◌+◌, ◌-◌, ◌*◌, ◌<◌, ◌≤◌, Bool, true, ◌&&◌, eqb, ◌⊎◌, List, [], ◌∷◌, length, get_or, Some, None, Option, Bor, cond, ltb, sym, refl, ap, ◌∙◌, inl, inr, le_of_suc-le-suc, not-suc-le-zero, add-mul, add-one, arith}
+use Rattle.std.proofs.lemmas.Bool.{and_parts, eqb-true, cases_order, cond-false, cond-true, ltb-true}
+use Rattle.std.specs.Option.{option_copied}
+use Rattle.std.specs.Slice.{IsItemAt}
 use Rattle.calendar.specs.Years.{sum_below}
 
 pub sum_none : (f : ℕ → ℕ) → sum_below f 0 ≡ 0
@@ -45,21 +47,24 @@ abbrev pub laid_from : (ℕ → ℕ) → ℕ → ℕ → List ℕ → Bool
 laid_from f k sum [] = true
 laid_from f k sum (x ∷ xs) = eqb x sum && laid_from f (k + 1) (sum + f k) xs
 
-both : (a b : Bool) → T (a && b) → T a × T b
-both true b t = (tt, t)
-both false b t = absurd t
-
 -- A table that passes holds at each place the sum of the lengths before it.
-laid_on : (f : ℕ → ℕ) (xs : List ℕ) (k : ℕ) → T (laid_from f k (sum_below f k) xs) → (i : ℕ) → i < length xs → get_or xs i 0 ≡ sum_below f (k + i)
+laid_on : (f : ℕ → ℕ) (xs : List ℕ) (k : ℕ) → laid_from f k (sum_below f k) xs ≡ true → (i : ℕ) → i < length xs → get_or xs i 0 ≡ sum_below f (k + i)
 laid_on f [] k t i h = absurd (not-suc-le-zero h)
 laid_on f (x ∷ xs) k t zero h =
-    let e : k + 0 ≡ k = omega arith in rw e (eqb→eq x (sum_below f k) (both _ _ t).0)
+    let e : k + 0 ≡ k = omega arith in rw e (eqb-true x (sum_below f k) (and_parts _ _ t).0)
 laid_on f (x ∷ xs) k t (suc i) h =
     let e : k + suc i ≡ (k + 1) + i = omega arith in
-    let rest = (both _ _ t).1 in
-    rw e (laid_on f xs (k + 1) (subst (λ (s : ℕ). T (laid_from f (k + 1) s xs)) (sym (sum_more f k)) rest) i (le_of_suc-le-suc h))
+    rw e (laid_on f xs (k + 1) (rw sum_more (and_parts _ _ t).1) i (le_of_suc-le-suc h))
 
-pub laid_at : (f : ℕ → ℕ) (xs : List ℕ) → T (laid_from f 0 0 xs) → (i : ℕ) → i < length xs → get_or xs i 0 ≡ sum_below f i
+laid_at : (f : ℕ → ℕ) (xs : List ℕ) → laid_from f 0 0 xs ≡ true → (i : ℕ) → i < length xs → get_or xs i 0 ≡ sum_below f i
 laid_at f xs t i h =
     let e : 0 + i ≡ i = omega arith in
-    rw e at (laid_on f xs 0 (subst (λ (s : ℕ). T (laid_from f 0 s xs)) (sym (sum_none f)) t) i h)
+    rw e at (laid_on f xs 0 (rw sum_none t) i h)
+
+-- What is read from it at a place: that sum, and nothing past its end.
+pub laid_read : (f : ℕ → ℕ) (xs : List ℕ) → laid_from f 0 0 xs ≡ true → (i : ℕ) (r : Option (Bor ℕ)) → IsItemAt xs i r → option_copied r ≡ cond (ltb i (length xs)) (Some (sum_below f i)) None
+laid_read f xs t i None at = sym (cond-false (ltb i (length xs)) (Some (sum_below f i)) None (sym at.0))
+laid_read f xs t i (Some x) at =
+    let within : i < length xs = ltb-true i (length xs) (sym at.0) in
+    let read : x.now ≡ get_or xs i 0 = at.4 (omega arith) 0 in
+    ap (λ (n : ℕ). Some n) (read ∙ laid_at f xs t i within) ∙ sym (cond-true (ltb i (length xs)) (Some (sum_below f i)) None (sym at.0))

@@ -1,5 +1,5 @@
 -- Dates that exist, the number of a date, and a date plus n seconds. Assumes nothing.
-use Rattle.std.specs.Prelude.{◌≡◌, ℕ, ◌+◌, ◌-◌, ◌*◌, ◌/◌, ◌%◌, Bool, true, cond, not, ◌||◌, is_some, Some, None, Option, ◌==◌, nat_le, nat_lt}
+use Rattle.std.specs.Prelude.{◌≡◌, ℕ, ◌+◌, ◌-◌, ◌*◌, ◌/◌, ◌%◌, Bool, true, cond, not, ◌||◌, is_some, Some, None, Option, Ok, Err, Result, ◌==◌, nat_le, nat_lt}
 use Rattle.std.specs.Option.{option_map}
 use Rattle.calendar.specs.declared.clock.Clock.{Clock}
 use Rattle.calendar.specs.declared.clock.Register.{Register}
@@ -48,6 +48,11 @@ bad_register c =
     (unless (nat_le c.weekday 6) Weekday
     (unless (c.century == 0x19 || c.century == 0x20) Century
     (unless (in_month (day_of c)) DateRegister None))))))))
+
+-- A value where no register is bad, else the register to blame.
+abbrev pub unless_bad : {A : Type 0} → Option Register → A → Result A Register
+unless_bad None x = Ok x
+unless_bad (Some register) x = Err register
 
 -- The number of that register, 30h to 37h.
 unfoldable pub first_bad : Clock → Option ℕ

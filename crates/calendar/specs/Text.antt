@@ -1,12 +1,14 @@
 -- The text of a date. Assumes nothing.
 use Rattle.std.specs.Prelude.{ℕ, ◌/◌, ◌%◌, cond, List, ◌++◌, Some, None, codes, decimal, Option, nat_lt}
 use Rattle.calendar.specs.declared.clock.Clock.{Clock}
+use Rattle.calendar.specs.declared.clock.Register.{Register}
 use Rattle.calendar.specs.declared.date.Date.{Date}
 use Rattle.calendar.specs.declared.day.Day.{Day}
 use Rattle.calendar.specs.declared.digits.Digits.{Digits}
 use Rattle.calendar.specs.declared.time.HourForm.{HourForm}
 use Rattle.calendar.specs.declared.time.HourForm.TheVariants.{TwelveHour, TwentyFourHour}
 use Rattle.calendar.specs.declared.time.Time.{Time}
+use Rattle.calendar.specs.Clock.{register_number}
 use Rattle.calendar.specs.Dates.{date_of, first_bad}
 use Rattle.calendar.specs.Hours.{twelve}
 
@@ -35,6 +37,10 @@ time_text t TwelveHour =
 -- As 1999-12-31 23:59:59.
 abbrev pub date_text : Date → List ℕ
 date_text d = day_text d.day ++ (codes " " ++ time_text d.time d.form)
+
+-- A register as 33h.
+abbrev pub register_text : Register → List ℕ
+register_text r = codes "3" ++ (decimal (register_number r % 16) ++ codes "h")
 
 -- Bytes that are no date name their first bad register, as: no date (register 33h).
 abbrev pub said : Date → Option ℕ → List ℕ

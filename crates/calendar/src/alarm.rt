@@ -1,6 +1,6 @@
 // An alarm's eight bytes against the clock's.
 ghost use Rattle.std.specs.Prelude.{◌≡◌};
-ghost use Rattle.calendar.specs.Alarm.{agrees, alarm_of, all_agree, enabled, matches, some_enabled};
+ghost use Rattle.calendar.specs.Alarm.{agrees, alarm_of, compared, enabled, matches, pair};
 
 use crate::clock::Clock;
 
@@ -14,74 +14,69 @@ const BITS_5_TO_0: u8 = 0x3f;
 // An alarm's bytes in the order of the clock's. Its year and century are stored and never compared.
 #[derive(Clone, Copy, PartialEq, Eq, Debug)]
 pub struct Alarm {
-    pub seconds: u8,
-    pub minutes: u8,
-    pub hours: u8,
-    pub date: u8,
-    pub month: u8,
-    pub year: u8,
-    pub weekday: u8,
-    pub century: u8,
+    pub bytes: Clock,
+}
+
+impl From<[u8; 8]> for Alarm {
+    ghost from_gives = { λ bytes a. a ≡ alarm_of bytes };
+
+    fn from(bytes: [u8; 8]) -> Alarm {
+        Alarm {
+            bytes: Clock::from(bytes),
+        }
+    }
 }
 
 impl Alarm {
-    pub fn from_bytes(bytes: [u8; 8]) -> Alarm
-        ensures { result ≡ alarm_of bytes }
-    {
-        let [seconds, minutes, hours, date, month, year, weekday, century] = bytes;
-        Alarm {
-            seconds,
-            minutes,
-            hours,
-            date,
-            month,
-            year,
-            weekday,
-            century,
-        }
-    }
-
     // Whether the alarm has an enable bit, and every enabled byte equals the clock's.
     pub fn matches(self, clock: Clock) -> bool
         ensures { result ≡ matches self clock }
     {
-        self.has_enabled() && self.agrees(clock)
+        let compared = self.compared(clock);
+        compared.iter().any(|pair| pair.is_enabled()) && compared.iter().all(|pair| pair.agrees())
     }
 
-    // Whether every enabled one of the six compared bytes equals the clock's.
-    fn agrees(self, clock: Clock) -> bool
-        ensures { result ≡ all_agree self clock }
+    // The six bytes that are compared, in the order of their registers.
+    fn compared(self, clock: Clock) -> [Compared; 6]
+        ensures { result ≡ compared self clock }
     {
-        agrees_in(BITS_6_TO_0, self.seconds, clock.seconds)
-            && agrees_in(BITS_6_TO_0, self.minutes, clock.minutes)
-            && agrees_in(BITS_5_TO_0, self.hours, clock.hours)
-            && agrees_in(BITS_6_TO_0, self.date, clock.date)
-            && agrees_in(BITS_6_TO_0, self.month, clock.month)
-            && agrees_in(BITS_6_TO_0, self.weekday, clock.weekday)
-    }
-
-    // Whether one of the six compared bytes is enabled.
-    fn has_enabled(self) -> bool
-        ensures { result ≡ some_enabled self }
-    {
-        is_enabled(self.seconds)
-            || is_enabled(self.minutes)
-            || is_enabled(self.hours)
-            || is_enabled(self.date)
-            || is_enabled(self.month)
-            || is_enabled(self.weekday)
+        let alarm = self.bytes;
+        [
+            Compared::of(alarm.seconds, clock.seconds, BITS_6_TO_0),
+            Compared::of(alarm.minutes, clock.minutes, BITS_6_TO_0),
+            Compared::of(alarm.hours, clock.hours, BITS_5_TO_0),
+            Compared::of(alarm.date, clock.date, BITS_6_TO_0),
+            Compared::of(alarm.month, clock.month, BITS_6_TO_0),
+            Compared::of(alarm.weekday, clock.weekday, BITS_6_TO_0),
+        ]
     }
 }
 
-fn is_enabled(byte: u8) -> bool
-    ensures { result ≡ enabled byte }
-{
-    byte & ENABLE != 0
+// An alarm's byte, the clock's, and the bits in which they are compared.
+#[derive(Clone, Copy)]
+struct Compared {
+    byte: u8,
+    shown: u8,
+    mask: u8,
 }
 
-// An enabled byte agrees with the clock's where both have the same bits under the mask; one that is not enabled always does.
-fn agrees_in(mask: u8, byte: u8, clock: u8) -> bool
-    ensures { result ≡ agrees mask byte clock }
-{
-    !is_enabled(byte) || byte & mask == clock & mask
+impl Compared {
+    fn of(byte: u8, shown: u8, mask: u8) -> Compared
+        ensures { result ≡ pair byte shown mask }
+    {
+        Compared { byte, shown, mask }
+    }
+
+    fn is_enabled(self) -> bool
+        ensures { result ≡ enabled self.byte }
+    {
+        self.byte & ENABLE != 0
+    }
+
+    // An enabled byte agrees with the clock's where both have the same bits under the mask; one that is not enabled always does.
+    fn agrees(self) -> bool
+        ensures { result ≡ agrees self.mask self.byte self.shown }
+    {
+        !self.is_enabled() || self.byte & self.mask == self.shown & self.mask
+    }
 }

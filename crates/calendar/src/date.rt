@@ -1,14 +1,14 @@
 // A date taken out of the eight clock bytes: a day, a time of day, a weekday and an hour form.
 ghost use Rattle.std.specs.Prelude.{◌≡◌, ◌&&◌, if◌then◌else◌, Some, None};
-ghost use Rattle.calendar.specs.Dates.{date_of, seconds_of};
+ghost use Rattle.calendar.specs.Dates.{bad_register, date_of, seconds_of, unless_bad};
 ghost use Rattle.calendar.specs.Next.{clock_of, date_after, weekday_after};
 ghost use Rattle.calendar.specs.Text.{date_text};
 ghost use Rattle.calendar.specs.Years.{in_table, in_year};
 
-use crate::clock::Clock;
+use crate::clock::{Clock, Register};
 use crate::day::Day;
-use crate::digits::{Digits, bcd, count};
-use crate::time::{HourForm, Time, form_of, half_of, hour_of, hours_of, twelve_hour};
+use crate::digits::{Digits, bcd, count_within};
+use crate::time::{HourForm, Time, hour_of};
 use std::fmt;
 
 #[derive(Clone, Copy)]
@@ -20,42 +20,6 @@ pub struct Date {
 }
 
 impl Date {
-    // What the eight bytes say.
-    pub fn of(clock: Clock) -> Date
-        ensures { result ≡ date_of clock }
-    {
-        Date {
-            day: Day {
-                date: count(clock.date),
-                month: count(clock.month),
-                year: 100 * u16::from(count(clock.century)) + u16::from(count(clock.year)),
-            },
-            time: Time {
-                hour: hour_of(clock.hours),
-                minute: count(clock.minutes),
-                second: count(clock.seconds),
-            },
-            weekday: clock.weekday,
-            form: form_of(clock.hours),
-        }
-    }
-
-    // The eight bytes that say this date.
-    pub fn clock(self) -> Clock
-        ensures { result ≡ clock_of self }
-    {
-        Clock {
-            seconds: bcd(self.time.second),
-            minutes: bcd(self.time.minute),
-            hours: hours_of(self.time.hour, self.form),
-            date: bcd(self.day.date),
-            month: bcd(self.day.month),
-            year: bcd((self.day.year % 100) as u8),
-            weekday: self.weekday,
-            century: bcd((self.day.year / 100 % 100) as u8),
-        }
-    }
-
     // One second later: the next day begins at midnight.
     pub fn next(self) -> Date
         ensures { result ≡ date_after self }
@@ -80,6 +44,60 @@ impl Date {
     }
 }
 
+// What the eight bytes say, if it is a date that exists; else the first register bad by itself, or the date's where the month lacks it.
+impl TryFrom<Clock> for Date {
+    type Error = Register;
+
+    ghost try_from_gives = { λ c r. r ≡ unless_bad (bad_register c) (date_of c) };
+
+    fn try_from(clock: Clock) -> Result<Date, Register> {
+        let second = count_within(clock.seconds, 0, 59).ok_or(Register::Seconds)?;
+        let minute = count_within(clock.minutes, 0, 59).ok_or(Register::Minutes)?;
+        let hour = hour_of(clock.hours).ok_or(Register::Hours)?;
+        let date = count_within(clock.date, 1, 31).ok_or(Register::Date)?;
+        let month = count_within(clock.month, 1, 12).ok_or(Register::Month)?;
+        let year = count_within(clock.year, 0, 99).ok_or(Register::Year)?;
+        if clock.weekday > 6 {
+            return Err(Register::Weekday);
+        }
+        let century = count_within(clock.century, 19, 20).ok_or(Register::Century)?;
+        let day = Day {
+            date,
+            month,
+            year: 100 * u16::from(century) + u16::from(year),
+        };
+        let date = Date {
+            day,
+            time: Time {
+                hour,
+                minute,
+                second,
+            },
+            weekday: clock.weekday,
+            form: HourForm::of(clock.hours),
+        };
+        day.is_in_month().then_some(date).ok_or(Register::Date)
+    }
+}
+
+// The eight bytes that say a date.
+impl From<Date> for Clock {
+    ghost from_gives = { λ d c. c ≡ clock_of d };
+
+    fn from(date: Date) -> Clock {
+        Clock {
+            seconds: bcd(date.time.second),
+            minutes: bcd(date.time.minute),
+            hours: date.time.hours(date.form),
+            date: bcd(date.day.date),
+            month: bcd(date.day.month),
+            year: bcd(date.day.year_of_century()),
+            weekday: date.weekday,
+            century: bcd(date.day.century()),
+        }
+    }
+}
+
 // As 1999-12-31 23:59:59, or in 12-hour form 1999-12-31 11:59:59 PM.
 impl fmt::Display for Date {
     ghost output = { λ d. Some (date_text d) };
@@ -94,8 +112,8 @@ impl fmt::Display for Date {
                 write!(f, "{day} {hour}:{minute}:{second}")
             }
             HourForm::TwelveHour => {
-                let hour = Digits::of(twelve_hour(self.time.hour));
-                let half = half_of(self.time.hour);
+                let hour = Digits::of(self.time.twelve_hour());
+                let half = self.time.half();
                 write!(f, "{day} {hour}:{minute}:{second} {half}")
             }
         }

@@ -1,5 +1,5 @@
 // A count from 0 to 99 as its two decimal digits, and as the byte that holds them (BCD).
-ghost use Rattle.std.specs.Prelude.{◌≡◌, ◌%◌, Some};
+ghost use Rattle.std.specs.Prelude.{◌≡◌, ◌%◌, if◌then◌else◌, Some, None};
 ghost use Rattle.calendar.specs.Digits.{AreDigits, bcd_of, count_of, in_range};
 ghost use Rattle.calendar.specs.Text.{figures};
 
@@ -12,7 +12,7 @@ pub struct Digits {
 }
 
 impl Digits {
-    // The two digits of a count; of a count above 99 the last two.
+    // The two digits of a count; of a count above 99 the last two. Not a `From`, which would hide that the rest of it is lost.
     pub fn of(count: u8) -> Digits
         ensures { AreDigits (count % 100) result }
     {
@@ -50,9 +50,10 @@ pub(crate) fn count(byte: u8) -> u8
     10 * (byte / 16) + byte % 16
 }
 
-// Whether a byte holds two digits whose count lies from `low` to `high`.
-pub(crate) fn is_count(byte: u8, low: u8, high: u8) -> bool
-    ensures { result ≡ in_range byte low high }
+// The count of a byte that holds two digits, if it lies from `low` to `high`.
+pub(crate) fn count_within(byte: u8, low: u8, high: u8) -> Option<u8>
+    ensures { result ≡ (if in_range byte low high then Some (count_of byte) else None) }
 {
-    byte % 16 < 10 && low <= count(byte) && count(byte) <= high
+    let counted = count(byte);
+    (byte % 16 < 10 && (low..=high).contains(&counted)).then_some(counted)
 }

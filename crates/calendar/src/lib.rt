@@ -13,5 +13,5 @@ pub mod worked;
 pub mod year;
 
 pub use alarm::Alarm;
-pub use clock::Clock;
+pub use clock::{Clock, Register};
 pub use digits::Digits;

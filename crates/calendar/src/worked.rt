@@ -3,29 +3,30 @@ ghost use Rattle.std.specs.Prelude.{◌≡◌};
 ghost use Rattle.calendar.specs.Worked.{Holds, case_of, worked};
 ghost use Rattle.std.specs.List.{AllByRecursion};
 
-use crate::clock::Clock;
+use crate::clock::{Clock, Register};
 
 // Eight bytes, their first bad register, and the bytes one second later.
 #[derive(Clone, Copy)]
 pub struct Case {
     pub shown: Clock,
-    pub bad: Option<u8>,
+    pub bad: Option<Register>,
     pub later: Clock,
 }
 
 impl Case {
-    fn of(shown: [u8; 8], bad: Option<u8>, later: [u8; 8]) -> Case
+    fn of(shown: [u8; 8], bad: Option<Register>, later: [u8; 8]) -> Case
         ensures { result ≡ case_of shown bad later }
     {
         Case {
-            shown: Clock::from_bytes(shown),
+            shown: Clock::from(shown),
             bad,
-            later: Clock::from_bytes(later),
+            later: Clock::from(later),
         }
     }
 }
 
 // Turns of the day, the month, the year and the calendar in both hour forms, and a date that does not exist.
+#[tactic(auto, unfolding(crate::specs::Dates::first_bad, crate::specs::Next::next))]
 pub fn worked_cases() -> [Case; 7]
     ensures value { result ≡ worked }
     ensures hold { AllByRecursion Holds worked }
@@ -70,7 +71,7 @@ pub fn worked_cases() -> [Case; 7]
         // 30 February is bad at 33h.
         Case::of(
             [0x00, 0x00, 0x12, 0x30, 0x02, 0x00, 3, 0x20],
-            Some(0x33),
+            Some(Register::Date),
             [0x00, 0x00, 0x12, 0x30, 0x02, 0x00, 3, 0x20],
         ),
     ]

@@ -1,6 +1,6 @@
-// Leap years, and the days of years and months.
-ghost use Rattle.std.specs.Prelude.{◌≡◌, ◌<◌, if◌then◌else◌, Some, None};
-ghost use Rattle.calendar.specs.Years.{days_before_month, days_before_year, in_table, in_year, leap_year, month_length, month_length_after, sum_below, year_length_after};
+// Leap years, and the days of years.
+ghost use Rattle.std.specs.Prelude.{◌≡◌, if◌then◌else◌, Some, None};
+ghost use Rattle.calendar.specs.Years.{days_before_year, in_table, leap_year};
 
 const FIRST_YEAR: u16 = 1900;
 
@@ -25,13 +25,6 @@ pub const DAYS_BEFORE_YEAR: [u32; 200] = [
     68301, 68666, 69032, 69397, 69762, 70127, 70493, 70858, 71223, 71588, 71954, 72319, 72684,
 ];
 
-// The days before each month of a common year, and of a leap year.
-const DAYS_BEFORE_MONTH: [u16; 12] = [0, 31, 59, 90, 120, 151, 181, 212, 243, 273, 304, 334];
-
-const DAYS_BEFORE_MONTH_OF_LEAP_YEAR: [u16; 12] = [
-    0, 31, 60, 91, 121, 152, 182, 213, 244, 274, 305, 335,
-];
-
 // A year that 4 divides is a leap year, but the first of a century only where 400 divides it.
 pub(crate) fn is_leap(year: u16) -> bool
     ensures { result ≡ leap_year year }
@@ -43,55 +36,10 @@ pub(crate) fn is_leap(year: u16) -> bool
     }
 }
 
-// The days of a month; 0 for a month that is none.
-pub(crate) fn days_in_month(year: u16, month: u8) -> u8
-    ensures { result ≡ month_length (leap_year year) month }
-{
-    match month {
-        2 if is_leap(year) => 29,
-        2 => 28,
-        4 | 6 | 9 | 11 => 30,
-        1 | 3 | 5 | 7 | 8 | 10 | 12 => 31,
-        _ => 0,
-    }
-}
-
 // The days from 1 January 1900 to 1 January of a year; nothing for a year that the table does not hold.
 pub fn days_before_year(year: u16) -> Option<u32>
     ensures { result ≡ (if in_table year then Some (days_before_year year) else None) }
 {
-    match year {
-        FIRST_YEAR..=LAST_YEAR => Some(days_of_years(year - FIRST_YEAR)),
-        _ => None,
-    }
-}
-
-// The days from 1 January to the first of a month; nothing for a month that is none.
-pub(crate) fn days_before_month(year: u16, month: u8) -> Option<u16>
-    ensures { result ≡ (if in_year month then Some (days_before_month (leap_year year) month) else None) }
-{
-    match month {
-        1..=12 => Some(days_of_months(is_leap(year), month - 1)),
-        _ => None,
-    }
-}
-
-// The days of the first `k` years from 1900 on.
-fn days_of_years(k: u16) -> u32
-    requires { k < 200 }
-    ensures { result ≡ sum_below year_length_after k }
-{
-    DAYS_BEFORE_YEAR[k as usize]
-}
-
-// The days of the first `k` months of a year.
-fn days_of_months(leap: bool, k: u8) -> u16
-    requires { k < 12 }
-    ensures { result ≡ sum_below (month_length_after leap) k }
-{
-    if leap {
-        DAYS_BEFORE_MONTH_OF_LEAP_YEAR[k as usize]
-    } else {
-        DAYS_BEFORE_MONTH[k as usize]
-    }
+    let place = year.checked_sub(FIRST_YEAR)?;
+    DAYS_BEFORE_YEAR.get(usize::from(place)).copied()
 }

@@ -19,6 +19,12 @@ level_of line n = cond (n == 0) (Ok false) (cond (n == 1) (Ok true) (Err (BadLev
 abbrev pub supply_of : ℕ → Result Supply Refusal
 supply_of n = cond (n == 0) (Ok Off) (cond (n == 1) (Ok Main) (cond (n == 2) (Ok Battery) (Err BadSupply)))
 
+-- The number that means a supply.
+abbrev pub supply_number : Supply → ℕ
+supply_number Off = 0
+supply_number Main = 1
+supply_number Battery = 2
+
 -- Two levels that were both taken; else the refusal of the first that was not.
 abbrev pub given : Result Bool Refusal → Result Bool Refusal → Result Event Refusal
 given (Ok c) (Ok d) = Ok (Given (record { scl = c; sda = d }))

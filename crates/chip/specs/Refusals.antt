@@ -30,9 +30,17 @@ abbrev pub line_address : Line → ℕ
 line_address Scl = 0
 line_address Sda = 1
 
+-- A report that names no area, no address and no life.
+abbrev pub unplaced : Layer → ℕ → Report
+unplaced layer n = record { number = n; layer = layer; area = None; address = 0; life = None }
+
+-- A report that names an area and an address.
+abbrev pub placed : Layer → ℕ → Area → ℕ → Report
+placed layer n area address = record { number = n; layer = layer; area = Some area; address = address; life = None }
+
 -- What the log's writer has to look into names no area and no address.
 abbrev pub of_log : ℕ → Report
-of_log n = record { number = n; layer = Log; area = None; address = 0; life = None }
+of_log n = unplaced Log n
 
 -- 1 a level above 1; 2 a supply above 2; 3 an unfit memory; 4 a place out of range, which is the address;
 -- 5 a life too short, with the life left; 6 RWEL off; 7 not a date; 8 a locked page; 9 the first line of

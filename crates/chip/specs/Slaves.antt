@@ -2,6 +2,8 @@
 use Rattle.std.specs.Prelude.{ℕ, Bool, true, false, cond, Some, None, Option, ◌==◌}
 use Rattle.chip.specs.declared.slaves.Area.{Area}
 use Rattle.chip.specs.declared.slaves.Area.TheVariants.{Array, Registers}
+use Rattle.chip.specs.declared.slaves.Direction.{Direction}
+use Rattle.chip.specs.declared.slaves.Direction.TheVariants.{Write, Read}
 use Rattle.chip.specs.declared.slaves.Slave.{Slave}
 use Rattle.chip.specs.declared.slaves.Slave.TheVariants.{ArrayWrite, ArrayRead, RegisterWrite, RegisterRead}
 
@@ -12,6 +14,20 @@ slave_named b =
     (cond (b == 0xAF) (Some ArrayRead)
     (cond (b == 0xDE) (Some RegisterWrite)
     (cond (b == 0xDF) (Some RegisterRead) None)))
+
+-- The byte that names a slave.
+abbrev pub slave_byte : Slave → ℕ
+slave_byte ArrayWrite = 0xAE
+slave_byte ArrayRead = 0xAF
+slave_byte RegisterWrite = 0xDE
+slave_byte RegisterRead = 0xDF
+
+-- The slave by which an area is written or read.
+abbrev pub slave_of : Area → Direction → Slave
+slave_of Array Write = ArrayWrite
+slave_of Array Read = ArrayRead
+slave_of Registers Write = RegisterWrite
+slave_of Registers Read = RegisterRead
 
 -- The address space that a slave byte names.
 abbrev pub area_of : Slave → Area

@@ -2,7 +2,7 @@
 ghost use Rattle.std.specs.Prelude.{◌≡◌};
 ghost use Rattle.chip.specs.Bits.{weight, is_zero_bit, shifted};
 
-// What bit `index` of a byte is worth, counted from the highest.
+// What bit `index` of a byte is worth, counted from the highest; past the eighth bit that of the lowest, since any index may be asked.
 fn weight(index: u8) -> u8
     ensures { result ≡ weight index }
 {
@@ -29,5 +29,5 @@ pub fn is_zero_bit(byte: u8, index: u8) -> bool
 pub fn shifted(byte: u8, level: bool) -> u8
     ensures { result ≡ shifted byte level }
 {
-    byte % 128 * 2 + if level { 1 } else { 0 }
+    byte % 128 * 2 + u8::from(level)
 }

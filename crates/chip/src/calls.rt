@@ -5,7 +5,7 @@ ghost use Rattle.chip.specs.Calls.{accepted};
 use crate::refusals::{Line, Refusal};
 use crate::wires::Levels;
 
-// Where the module's supply comes from.
+// Where the module's supply comes from; a board names it by a number.
 #[derive(Clone, Copy, PartialEq, Eq, Debug)]
 pub enum Supply {
     Off,
@@ -43,41 +43,60 @@ impl Call {
     {
         match self {
             Call::Level { scl, sda } => {
-                let scl = level_of(Line::Scl, scl)?;
-                let sda = level_of(Line::Sda, sda)?;
+                let scl = Line::Scl.level(scl)?;
+                let sda = Line::Sda.level(sda)?;
                 Ok(Event::Given {
                     levels: Levels { scl, sda },
                 })
             }
             Call::Tick => Ok(Event::Ticked),
             Call::Supply { which } => Ok(Event::Supplied {
-                supply: supply_of(which)?,
+                supply: Supply::try_from(which)?,
             }),
         }
     }
 }
 
-ghost use Rattle.chip.specs.Calls.{level_of, supply_of};
+ghost use Rattle.chip.specs.Calls.{level_of, supply_of, supply_number};
 
-// The level that a number on a line means.
-fn level_of(line: Line, number: u16) -> Result<bool, Refusal>
-    ensures { result ≡ level_of line number }
-{
-    match number {
-        0 => Ok(false),
-        1 => Ok(true),
-        _ => Err(Refusal::BadLevel { line }),
+impl Line {
+    // The level that a number on this line means. No conversion of a number alone, since the refusal names the line.
+    fn level(self, number: u16) -> Result<bool, Refusal>
+        ensures { result ≡ level_of self number }
+    {
+        match number {
+            0 => Ok(false),
+            1 => Ok(true),
+            _ => Err(Refusal::BadLevel { line: self }),
+        }
     }
 }
 
 // The supply that a number means.
-fn supply_of(which: u16) -> Result<Supply, Refusal>
-    ensures { result ≡ supply_of which }
-{
-    match which {
-        0 => Ok(Supply::Off),
-        1 => Ok(Supply::Main),
-        2 => Ok(Supply::Battery),
-        _ => Err(Refusal::BadSupply),
+impl TryFrom<u16> for Supply {
+    type Error = Refusal;
+
+    ghost try_from_gives = { λ which answer. answer ≡ supply_of which };
+
+    fn try_from(which: u16) -> Result<Supply, Refusal> {
+        match which {
+            0 => Ok(Supply::Off),
+            1 => Ok(Supply::Main),
+            2 => Ok(Supply::Battery),
+            _ => Err(Refusal::BadSupply),
+        }
+    }
+}
+
+// The number that means a supply.
+impl From<Supply> for u16 {
+    ghost from_gives = { λ supply which. which ≡ supply_number supply };
+
+    fn from(supply: Supply) -> u16 {
+        match supply {
+            Supply::Off => 0,
+            Supply::Main => 1,
+            Supply::Battery => 2,
+        }
     }
 }

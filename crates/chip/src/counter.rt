@@ -1,69 +1,96 @@
 // The address counter: the addresses that it takes and how it moves, and which data bytes are taken where it stands.
-ghost use Rattle.std.specs.Prelude.{◌≡◌};
+ghost use Rattle.std.specs.Prelude.{◌≡◌, ◌%◌};
 ghost use Rattle.chip.specs.Counter.{address_in, next_written, next_read, at_status, takes_data};
+ghost use Rattle.chip.specs.Registers.{section_of};
+ghost use Rattle.chip.specs.Sizes.{register_space};
+ghost use Rattle.chip.specs.declared.slaves.Area.TheVariants.{Registers};
 
 use crate::pages::{ARRAY, next_in_array, next_in_page};
 use crate::registers::{REGISTER_SPACE, Section, next_register};
 use crate::slaves::Area;
 
-// The address that two bytes name: modulo 512 in the array, modulo 64 among the registers.
-pub fn address_in(area: Area, high: u8, low: u8) -> u16
-    ensures { result ≡ address_in area high low }
-{
-    let both = high as u16 * 256 + low as u16;
-    match area {
-        Area::Array => both % ARRAY,
-        Area::Registers => both % REGISTER_SPACE,
+// An address of an area. The counter is one: it may stand past the registers, and names one of them modulo 64.
+#[derive(Clone, Copy, PartialEq, Eq, Debug)]
+pub struct Address {
+    pub area: Area,
+    pub offset: u16,
+}
+
+impl Area {
+    // The address that two bytes name: modulo 512 in the array, modulo 64 among the registers.
+    pub fn address(self, high: u8, low: u8) -> u16
+        ensures { result ≡ address_in self high low }
+    {
+        let both = u16::from(high) * 256 + u16::from(low);
+        match self {
+            Area::Array => both % ARRAY,
+            Area::Registers => both % REGISTER_SPACE,
+        }
     }
 }
 
-// Where the counter goes after an acknowledged data byte: one on inside its page or section.
-pub fn next_written(area: Area, counter: u16) -> u16
-    ensures { result ≡ next_written area counter }
-{
-    match area {
-        Area::Array => next_in_page(counter),
-        Area::Registers => next_register(counter),
+impl Address {
+    // The address of a register.
+    pub fn register(register: u16) -> Address
+        ensures area { result.area ≡ Registers }
+        ensures offset { result.offset ≡ register }
+    {
+        Address {
+            area: Area::Registers,
+            offset: register,
+        }
     }
-}
 
-// Where the counter goes after a byte sent: one on across the array, or inside its section; status and empty addresses do not move it.
-pub fn next_read(area: Area, counter: u16) -> u16
-    ensures { result ≡ next_read area counter }
-{
-    match area {
-        Area::Array => next_in_array(counter),
-        Area::Registers => match Section::of(counter % REGISTER_SPACE) {
-            None | Some(Section::Status) => counter,
-            Some(section) => section.next(counter % REGISTER_SPACE),
-        },
+    // The section of the register that this address names.
+    fn section(self) -> Option<Section>
+        ensures { result ≡ section_of (self.offset % register_space) }
+    {
+        Section::of(self.offset % REGISTER_SPACE)
     }
-}
 
-// Whether a read at the counter sends status.
-pub fn at_status(area: Area, counter: u16) -> bool
-    ensures { result ≡ at_status area counter }
-{
-    match area {
-        Area::Array => false,
-        Area::Registers => match Section::of(counter % REGISTER_SPACE) {
-            Some(Section::Status) => true,
-            None | Some(_) => false,
-        },
+    // Where the counter goes after an acknowledged data byte: one on inside its page or section.
+    pub fn next_written(self) -> u16
+        ensures { result ≡ next_written self.area self.offset }
+    {
+        match self.area {
+            Area::Array => next_in_page(self.offset),
+            Area::Registers => next_register(self.offset),
+        }
     }
-}
 
-// Whether a data byte of a write to an address is taken: where WEL is on; by status its first always and no other; outside all
-// sections none.
-pub fn takes_data(wel: bool, area: Area, address: u16, is_first: bool) -> bool
-    ensures { result ≡ takes_data wel area address is_first }
-{
-    match area {
-        Area::Array => wel,
-        Area::Registers => match Section::of(address) {
-            None => false,
-            Some(Section::Status) => is_first,
-            Some(_) => wel,
-        },
+    // Where the counter goes after a byte sent: one on across the array, or inside its section; status and empty addresses do not
+    // move it.
+    pub fn next_read(self) -> u16
+        ensures { result ≡ next_read self.area self.offset }
+    {
+        match self.area {
+            Area::Array => next_in_array(self.offset),
+            Area::Registers => match self.section() {
+                None | Some(Section::Status) => self.offset,
+                Some(section) => section.next(self.offset % REGISTER_SPACE),
+            },
+        }
+    }
+
+    // Whether a read here sends status.
+    pub fn is_status(self) -> bool
+        ensures { result ≡ at_status self.area self.offset }
+    {
+        self.area == Area::Registers && self.section() == Some(Section::Status)
+    }
+
+    // Whether a data byte of a write that began here is taken: where WEL is on; by status its first always and no other; outside all
+    // sections none.
+    pub fn takes_data(self, wel: bool, is_first: bool) -> bool
+        ensures { result ≡ takes_data wel self.area self.offset is_first }
+    {
+        match self.area {
+            Area::Array => wel,
+            Area::Registers => match Section::of(self.offset) {
+                None => false,
+                Some(Section::Status) => is_first,
+                Some(_) => wel,
+            },
+        }
     }
 }

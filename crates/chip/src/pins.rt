@@ -11,12 +11,12 @@ pub enum Pin {
     Crystal,
 }
 
-impl Pin {
-    // The number by which a board is told.
-    pub fn number(self) -> u8
-        ensures { result ≡ pin_number self }
-    {
-        match self {
+// The number by which a board is told.
+impl From<Pin> for u8 {
+    ghost from_gives = { λ pin n. n ≡ pin_number pin };
+
+    fn from(pin: Pin) -> u8 {
+        match pin {
             Pin::Low => 0,
             Pin::Released => 1,
             Pin::Crystal => 2,

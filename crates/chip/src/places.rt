@@ -2,26 +2,30 @@
 ghost use Rattle.std.specs.Prelude.{◌≡◌};
 ghost use Rattle.chip.specs.Places.{place_of, stores};
 
+use crate::counter::Address;
 use crate::pages::ARRAY;
 use crate::registers::masked;
 use crate::slaves::Area;
 
-// The memory's place for an address: the array first, then the registers from 00h on.
-pub fn place_of(area: Area, address: u16) -> usize
-    ensures { result ≡ place_of area address }
-{
-    match area {
-        Area::Array => address as usize,
-        Area::Registers => ARRAY as usize + address as usize,
+impl Address {
+    // The memory's place for it: the array first, then the registers from 00h on.
+    pub fn place(self) -> usize
+        ensures { result ≡ place_of self.area self.offset }
+    {
+        let offset = usize::from(self.offset);
+        match self.area {
+            Area::Array => offset,
+            Area::Registers => usize::from(ARRAY) + offset,
+        }
     }
-}
 
-// What a byte sent to an address stores there: all of it in the array, in a register what its mask lets through.
-pub fn stored_as(area: Area, address: u16, byte: u8) -> u8
-    ensures { result ≡ stores area address byte }
-{
-    match area {
-        Area::Array => byte,
-        Area::Registers => masked(address, byte),
+    // What a byte sent to it stores: all of it in the array, in a register what its mask lets through.
+    pub fn stored_as(self, byte: u8) -> u8
+        ensures { result ≡ stores self.area self.offset byte }
+    {
+        match self.area {
+            Area::Array => byte,
+            Area::Registers => masked(self.offset, byte),
+        }
     }
 }

@@ -1,6 +1,6 @@
 // Refusals: what a call answers where it does not do its work, and who has to look into it.
 ghost use Rattle.std.specs.Prelude.{◌≡◌};
-ghost use Rattle.chip.specs.Refusals.{report, of_log, layer_number, area_number};
+ghost use Rattle.chip.specs.Refusals.{report, unplaced, placed, layer_number, area_number};
 
 use crate::slaves::Area;
 
@@ -20,12 +20,12 @@ pub enum Layer {
     Log,
 }
 
-impl Layer {
-    // The number by which a report names it.
-    pub fn number(self) -> u8
-        ensures { result ≡ layer_number self }
-    {
-        match self {
+// The number by which a report names a layer.
+impl From<Layer> for u8 {
+    ghost from_gives = { λ layer n. n ≡ layer_number layer };
+
+    fn from(layer: Layer) -> u8 {
+        match layer {
             Layer::Board => 1,
             Layer::Bus => 2,
             Layer::Memory => 3,
@@ -78,106 +78,89 @@ impl Refusal {
     {
         match self {
             Refusal::BadLevel { line } => Report {
-                number: 1,
-                layer: Layer::Board,
-                area: None,
-                address: line_address(line),
-                life: None,
+                address: line.into(),
+                ..Report::of(Layer::Board, 1)
             },
-            Refusal::BadSupply => Report {
-                number: 2,
-                layer: Layer::Board,
-                area: None,
-                address: 0,
-                life: None,
-            },
-            Refusal::Unfit => Report {
-                number: 3,
-                layer: Layer::Board,
-                area: None,
-                address: 0,
-                life: None,
-            },
+            Refusal::BadSupply => Report::of(Layer::Board, 2),
+            Refusal::Unfit => Report::of(Layer::Board, 3),
             Refusal::BadPlace { place } => Report {
-                number: 4,
-                layer: Layer::Board,
-                area: None,
                 address: place,
-                life: None,
+                ..Report::of(Layer::Board, 4)
             },
             Refusal::Worn {
                 area,
                 address,
                 life,
             } => Report {
-                number: 5,
-                layer: Layer::Memory,
-                area: Some(area),
-                address,
                 life: Some(life),
+                ..Report::at(Layer::Memory, 5, area, address)
             },
-            Refusal::RwelOff { register } => Report {
-                number: 6,
-                layer: Layer::Bus,
-                area: Some(Area::Registers),
-                address: register,
-                life: None,
-            },
-            Refusal::NotADate { register } => Report {
-                number: 7,
-                layer: Layer::Bus,
-                area: Some(Area::Registers),
-                address: register,
-                life: None,
-            },
-            Refusal::PageLocked { address } => Report {
-                number: 8,
-                layer: Layer::Bus,
-                area: Some(Area::Array),
-                address,
-                life: None,
-            },
-            Refusal::NoNames => Report::of_log(9),
-            Refusal::Unreadable => Report::of_log(10),
-            Refusal::LogSize => Report::of_log(11),
+            Refusal::RwelOff { register } => Report::at(Layer::Bus, 6, Area::Registers, register),
+            Refusal::NotADate { register } => Report::at(Layer::Bus, 7, Area::Registers, register),
+            Refusal::PageLocked { address } => Report::at(Layer::Bus, 8, Area::Array, address),
+            Refusal::NoNames => Report::of(Layer::Log, 9),
+            Refusal::Unreadable => Report::of(Layer::Log, 10),
+            Refusal::LogSize => Report::of(Layer::Log, 11),
         }
     }
 }
 
 impl Report {
-    // What the log's writer has to look into.
-    fn of_log(number: u8) -> Report
-        ensures { result ≡ of_log number }
+    // A report that names no area, no address and no life.
+    fn of(layer: Layer, number: u8) -> Report
+        ensures { result ≡ unplaced layer number }
     {
         Report {
             number,
-            layer: Layer::Log,
+            layer,
             area: None,
             address: 0,
             life: None,
         }
     }
-}
 
-ghost use Rattle.chip.specs.Refusals.{line_address};
+    // A report that names an area and an address.
+    fn at(layer: Layer, number: u8, area: Area, address: u16) -> Report
+        ensures { result ≡ placed layer number area address }
+    {
+        Report {
+            area: Some(area),
+            address,
+            ..Report::of(layer, number)
+        }
+    }
 
-// The address by which a report names a line.
-fn line_address(line: Line) -> u16
-    ensures { result ≡ line_address line }
-{
-    match line {
-        Line::Scl => 0,
-        Line::Sda => 1,
+    // The number by which it names its area; 0 for none.
+    pub fn area_number(self) -> u8
+        ensures { result ≡ area_number self.area }
+    {
+        self.area.map_or(0, u8::from)
     }
 }
 
-// The number by which a report names an area; 0 for none.
-pub fn area_number(area: Option<Area>) -> u8
-    ensures { result ≡ area_number area }
-{
-    match area {
-        None => 0,
-        Some(Area::Array) => 1,
-        Some(Area::Registers) => 2,
+ghost use Rattle.std.specs.Prelude.{Some};
+ghost use Rattle.chip.specs.Refusals.{line_address};
+
+// The address by which a report names a line.
+impl From<Line> for u16 {
+    ghost from_gives = { λ line address. address ≡ line_address line };
+
+    fn from(line: Line) -> u16 {
+        match line {
+            Line::Scl => 0,
+            Line::Sda => 1,
+        }
+    }
+}
+
+// The number by which a report names an area.
+impl From<Area> for u8 {
+    ghost from_gives = { λ area n. n ≡ area_number (Some area) };
+
+    fn from(area: Area) -> u8 {
+        match area {
+            Area::Array => 1,
+            Area::Registers => 2,
+        }
     }
 }

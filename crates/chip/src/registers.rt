@@ -1,26 +1,12 @@
 // The registers: their sections, how an address moves inside one, and what a write may set of each.
 ghost use Rattle.std.specs.Prelude.{◌≡◌, ◌+◌, ◌<◌, ◌≤◌};
+ghost use Rattle.chip.specs.declared.slaves.Area.TheVariants.{Registers};
 ghost use Rattle.chip.specs.Registers.{section_of, first_of, length_of, next_in, next_register, masked};
+
+use crate::counter::Address;
 
 // The register addresses, most of them empty.
 pub const REGISTER_SPACE: u16 = 64;
-
-// The clock's registers.
-pub const SECONDS: u8 = 0x30;
-
-pub const MINUTES: u8 = 0x31;
-
-pub const HOURS: u8 = 0x32;
-
-pub const DATE: u8 = 0x33;
-
-pub const MONTH: u8 = 0x34;
-
-pub const YEAR: u8 = 0x35;
-
-pub const WEEKDAY: u8 = 0x36;
-
-pub const CENTURY: u8 = 0x37;
 
 // Registers that lie together: an address moves only inside its section.
 #[derive(Clone, Copy, PartialEq, Eq, Debug)]
@@ -65,6 +51,14 @@ impl Section {
         }
     }
 
+    // The address of its first register.
+    pub fn address(self) -> Address
+        ensures area { result.area ≡ Registers }
+        ensures offset { result.offset ≡ first_of self }
+    {
+        Address::register(self.first())
+    }
+
     // The number of its registers.
     fn length(self) -> u16
         ensures { result ≡ length_of self }
@@ -90,10 +84,7 @@ impl Section {
 pub(crate) fn next_register(register: u16) -> u16
     ensures { result ≡ next_register register }
 {
-    match Section::of(register) {
-        Some(section) => section.next(register),
-        None => register,
-    }
+    Section::of(register).map_or(register, |section| section.next(register))
 }
 
 // The bits that a write may set in each register that the memory stores: two alarms, then BL, INT, ATR, DTR.
@@ -106,8 +97,7 @@ const MASKS: [u8; 20] = [
 pub(crate) fn masked(register: u16, byte: u8) -> u8
     ensures { result ≡ masked register byte }
 {
-    match MASKS.get(register as usize) {
-        Some(mask) => byte & *mask,
-        None => byte,
-    }
+    MASKS
+        .get(usize::from(register))
+        .map_or(byte, |mask| byte & *mask)
 }

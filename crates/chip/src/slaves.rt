@@ -1,12 +1,19 @@
 // Slave bytes: which part of the chip a frame names, and whether it reads or writes.
 ghost use Rattle.std.specs.Prelude.{◌≡◌};
-ghost use Rattle.chip.specs.Slaves.{slave_named, area_of, reads};
+ghost use Rattle.chip.specs.Slaves.{slave_named, slave_byte, slave_of, area_of, reads};
 
 // The two address spaces.
 #[derive(Clone, Copy, PartialEq, Eq, Debug)]
 pub enum Area {
     Array,
     Registers,
+}
+
+// Who sends the data bytes of a frame: the master in a write, the module in a read.
+#[derive(Clone, Copy, PartialEq, Eq, Debug)]
+pub enum Direction {
+    Write,
+    Read,
 }
 
 // What a frame asks for by its first byte.
@@ -19,7 +26,20 @@ pub enum Slave {
 }
 
 impl Slave {
-    // The slave that a byte names, or none of ours.
+    // The slave by which an area is written or read.
+    pub fn of(area: Area, direction: Direction) -> Slave
+        ensures { result ≡ slave_of area direction }
+    {
+        match (area, direction) {
+            (Area::Array, Direction::Write) => Slave::ArrayWrite,
+            (Area::Array, Direction::Read) => Slave::ArrayRead,
+            (Area::Registers, Direction::Write) => Slave::RegisterWrite,
+            (Area::Registers, Direction::Read) => Slave::RegisterRead,
+        }
+    }
+
+    // The slave that a byte names, or none of ours. No TryFrom, since a byte of another chip is no error: as with char::from_u32,
+    // nobody would look at what it says.
     pub fn named(byte: u8) -> Option<Slave>
         ensures { result ≡ slave_named byte }
     {
@@ -49,6 +69,20 @@ impl Slave {
         match self {
             Slave::ArrayRead | Slave::RegisterRead => true,
             Slave::ArrayWrite | Slave::RegisterWrite => false,
+        }
+    }
+}
+
+// The byte that names a slave.
+impl From<Slave> for u8 {
+    ghost from_gives = { λ slave byte. byte ≡ slave_byte slave };
+
+    fn from(slave: Slave) -> u8 {
+        match slave {
+            Slave::ArrayWrite => 0xAE,
+            Slave::ArrayRead => 0xAF,
+            Slave::RegisterWrite => 0xDE,
+            Slave::RegisterRead => 0xDF,
         }
     }
 }

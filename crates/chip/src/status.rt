@@ -1,6 +1,6 @@
 // The status register.
 ghost use Rattle.std.specs.Prelude.{◌≡◌};
-ghost use Rattle.chip.specs.Status.{weighing, status_byte};
+ghost use Rattle.chip.specs.Status.{status_byte};
 
 // The bits of status that are not 0 by themselves.
 #[derive(Clone, Copy, PartialEq, Eq, Debug)]
@@ -17,23 +17,16 @@ pub struct Status {
     pub rtcf: bool,
 }
 
-impl Status {
-    // The byte that a read sends: BAT, AL1, AL0, 0, 0, RWEL, WEL, RTCF, from bit 7 down.
-    pub fn byte(self) -> u8
-        ensures { result ≡ status_byte self }
-    {
-        weighing(128, self.bat)
-            + weighing(64, self.al1)
-            + weighing(32, self.al0)
-            + weighing(4, self.rwel)
-            + weighing(2, self.wel)
-            + weighing(1, self.rtcf)
-    }
-}
+// The byte that a read sends: BAT, AL1, AL0, 0, 0, RWEL, WEL, RTCF, from bit 7 down.
+impl From<Status> for u8 {
+    ghost from_gives = { λ status byte. byte ≡ status_byte status };
 
-// A bit's weight where it is on, else 0.
-fn weighing(weight: u8, on: bool) -> u8
-    ensures { result ≡ weighing weight on }
-{
-    if on { weight } else { 0 }
+    fn from(status: Status) -> u8 {
+        128 * u8::from(status.bat)
+            + 64 * u8::from(status.al1)
+            + 32 * u8::from(status.al0)
+            + 4 * u8::from(status.rwel)
+            + 2 * u8::from(status.wel)
+            + u8::from(status.rtcf)
+    }
 }

@@ -28,10 +28,7 @@ pub enum Edge {
 fn wire(sda: bool, pulls: bool) -> bool
     ensures { result ≡ wire sda pulls }
 {
-    match (sda, pulls) {
-        (true, false) => true,
-        (true, true) | (false, false) | (false, true) => false,
-    }
+    sda && !pulls
 }
 
 // What moved when the levels go from `before` to `after` under one and the same pull.

@@ -17,7 +17,7 @@ fn pulse<M: Memory>(module: &mut Module, memory: &mut M, bit: u16) -> Result<boo
 // Sends a byte, and answers whether it is acknowledged.
 fn send<M: Memory>(module: &mut Module, memory: &mut M, byte: u8) -> Result<bool, Refusal> {
     for index in 0..8u8 {
-        pulse(module, memory, if is_zero_bit(byte, index) { 0 } else { 1 })?;
+        pulse(module, memory, u16::from(!is_zero_bit(byte, index)))?;
     }
     Ok(!pulse(module, memory, 1)?)
 }

@@ -51,8 +51,8 @@ fn shows_stored_bytes_clock_and_status(rt: HostRuntime) -> Result<(), Fail> {
     assert_eq!(rt; module.show(&memory, 0)?, 0x5A);
     assert_eq!(rt; module.show(&memory, 531)?, 0xA5);
     let start = [0x00, 0x00, 0x12, 0x01, 0x01, 0x00, 0x00, 0x20];
-    for k in 0..8usize {
-        assert_eq!(rt; module.show(&memory, 532 + k as u16)?, start[k]);
+    for (place, byte) in (532..540u16).zip(start) {
+        assert_eq!(rt; module.show(&memory, place)?, byte);
     }
     assert_eq!(rt; module.show(&memory, 540)?, 0x01);
     module.supply(&mut memory, 2)?;

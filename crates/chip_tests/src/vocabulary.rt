@@ -1,13 +1,12 @@
 // The tables and small rules of the chip, by examples.
 use chip::bits::{is_zero_bit, shifted};
 use chip::calls::{Call, Event, Supply};
-use chip::counter::{address_in, at_status, next_read, next_written, takes_data};
+use chip::counter::Address;
 use chip::locks::is_locked;
 use chip::pins::Pin;
-use chip::places::{place_of, stored_as};
-use chip::refusals::{Line, Refusal, area_number};
+use chip::refusals::{Line, Refusal};
 use chip::registers::Section;
-use chip::slaves::{Area, Slave};
+use chip::slaves::{Area, Direction, Slave};
 use chip::status::Status;
 use chip::wires::{Edge, Levels, edge_between};
 
@@ -57,22 +56,31 @@ fn calls_and_edges(rt: HostRuntime) {
     );
 }
 
+// An address of the array.
+fn array(offset: u16) -> Address {
+    Address {
+        area: Area::Array,
+        offset,
+    }
+}
+
 #[test]
 fn addresses_and_places(rt: HostRuntime) {
-    assert_eq!(rt; address_in(Area::Array, 0x03, 0xFF), 0x1FF);
-    assert_eq!(rt; address_in(Area::Registers, 0x00, 0xFF), 0x3F);
-    assert_eq!(rt; next_written(Area::Array, 0x3F), 0x00);
-    assert_eq!(rt; next_read(Area::Array, 0x3F), 0x40);
-    assert_eq!(rt; next_read(Area::Array, 0x1FF), 0x000);
-    assert_eq!(rt; next_written(Area::Registers, 0x13), 0x10);
-    assert_eq!(rt; next_read(Area::Registers, 0x37), 0x30);
-    assert_eq!(rt; next_read(Area::Registers, 0xFF), 0xFF);
-    assert_eq!(rt; next_read(Area::Registers, 0x20), 0x20);
-    assert!(rt; at_status(Area::Registers, 0xFF));
-    assert!(rt; !at_status(Area::Array, 0x3F));
-    assert_eq!(rt; place_of(Area::Registers, 0x13), 531);
-    assert_eq!(rt; stored_as(Area::Registers, 0x11, 0xFF), 0xF8);
-    assert_eq!(rt; stored_as(Area::Array, 0x11, 0xFF), 0xFF);
+    assert_eq!(rt; Area::Array.address(0x03, 0xFF), 0x1FF);
+    assert_eq!(rt; Area::Registers.address(0x00, 0xFF), 0x3F);
+    assert_eq!(rt; array(0x3F).next_written(), 0x00);
+    assert_eq!(rt; array(0x3F).next_read(), 0x40);
+    assert_eq!(rt; array(0x1FF).next_read(), 0x000);
+    assert_eq!(rt; Address::register(0x13).next_written(), 0x10);
+    assert_eq!(rt; Address::register(0x37).next_read(), 0x30);
+    assert_eq!(rt; Address::register(0xFF).next_read(), 0xFF);
+    assert_eq!(rt; Address::register(0x20).next_read(), 0x20);
+    assert!(rt; Address::register(0xFF).is_status());
+    assert!(rt; !array(0x3F).is_status());
+    assert_eq!(rt; Address::register(0x13).place(), 531);
+    assert_eq!(rt; Address::register(0x11).stored_as(0xFF), 0xF8);
+    assert_eq!(rt; array(0x11).stored_as(0xFF), 0xFF);
+    assert_eq!(rt; Section::Clock.address(), Address::register(0x30));
 }
 
 #[test]
@@ -84,10 +92,15 @@ fn sections_and_slaves(rt: HostRuntime) {
     assert_eq!(rt; Section::of(0x3F), Some(Section::Status));
     assert_eq!(rt; Slave::named(0xDF), Some(Slave::RegisterRead));
     assert_eq!(rt; Slave::named(0xA0), None);
-    assert!(rt; takes_data(false, Area::Registers, 0x3F, true));
-    assert!(rt; !takes_data(true, Area::Registers, 0x3F, false));
-    assert!(rt; !takes_data(true, Area::Registers, 0x20, true));
-    assert!(rt; !takes_data(false, Area::Array, 0, true));
+    assert_eq!(rt;
+        Slave::of(Area::Registers, Direction::Read),
+        Slave::RegisterRead
+    );
+    assert_eq!(rt; u8::from(Slave::ArrayWrite), 0xAE);
+    assert!(rt; Address::register(0x3F).takes_data(false, true));
+    assert!(rt; !Address::register(0x3F).takes_data(true, false));
+    assert!(rt; !Address::register(0x20).takes_data(true, true));
+    assert!(rt; !array(0).takes_data(false, true));
     assert!(rt; is_zero_bit(0x7F, 0));
     assert!(rt; !is_zero_bit(0x01, 7));
     assert_eq!(rt; shifted(0xFF, false), 0xFE);
@@ -116,19 +129,20 @@ fn reports(rt: HostRuntime) {
     }
     .report();
     assert_eq!(rt; worn.number, 5);
-    assert_eq!(rt; worn.layer.number(), 3);
-    assert_eq!(rt; area_number(worn.area), 1);
+    assert_eq!(rt; u8::from(worn.layer), 3);
+    assert_eq!(rt; worn.area_number(), 1);
     assert_eq!(rt; worn.life, Some(1));
     let bad = Refusal::NotADate { register: 0x33 }.report();
     assert_eq!(rt; bad.number, 7);
-    assert_eq!(rt; bad.layer.number(), 2);
-    assert_eq!(rt; area_number(bad.area), 2);
+    assert_eq!(rt; u8::from(bad.layer), 2);
+    assert_eq!(rt; bad.area_number(), 2);
     assert_eq!(rt; bad.address, 0x33);
     let level = Refusal::BadLevel { line: Line::Sda }.report();
     assert_eq!(rt; level.number, 1);
     assert_eq!(rt; level.address, 1);
-    assert_eq!(rt; area_number(level.area), 0);
-    assert_eq!(rt; Pin::Released.number(), 1);
+    assert_eq!(rt; level.area_number(), 0);
+    assert_eq!(rt; u8::from(Pin::Released), 1);
+    assert_eq!(rt; u16::from(Supply::Battery), 2);
     let status = Status {
         bat: true,
         al1: false,
@@ -137,5 +151,5 @@ fn reports(rt: HostRuntime) {
         wel: false,
         rtcf: true,
     };
-    assert_eq!(rt; status.byte(), 0xA5);
+    assert_eq!(rt; u8::from(status), 0xA5);
 }

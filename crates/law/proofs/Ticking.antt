@@ -1,10 +1,13 @@
 -- A tick: the module's step follows the rules.
-use Rattle.std.proofs.Common.{◌≡◌, ℕ, ◌-◌, Bool, true, false, not, ◌&&◌, ◌||◌, ◌∷◌, is_some, Option, unwrap_or, sym, refl, ap, ◌∙◌, subst, ap₂, inl, inr, lit<}
+use Rattle.std.proofs.Common.{◌≡◌, ℕ, ◌+◌, ◌-◌, ◌<◌, ◌≤◌, arith, Bool, true, false, not, ◌&&◌, ◌||◌, ◌∷◌, is_some, Option, unwrap_or, sym, refl, ap, ◌∙◌, subst, ap₂, inl, inr, lit<}
 use Rattle.std.proofs.lemmas.Bool.{true≢false, cond-true, cond-false}
 use Rattle.memory.specs.Model.{Mem}
 use Rattle.calendar.specs.Alarm.{matches}
 use Rattle.calendar.specs.Next.{next}
 use Rattle.calendar.specs.declared.clock.Clock.{Clock}
+use Rattle.chip.specs.Places.{place_of}
+use Rattle.chip.specs.Registers.{first_of}
+use Rattle.chip.specs.declared.slaves.Area.TheVariants.{Registers}
 use Rattle.chip.specs.declared.calls.Event.TheVariants.{Ticked}
 use Rattle.chip.specs.declared.calls.Supply.{Supply}
 use Rattle.chip.specs.declared.calls.Supply.TheVariants.{Off, Main, Battery}
@@ -160,32 +163,24 @@ holds_ticked was h s m c t f a n k =
       life = k.life;
     }
 
--- The first alarm as the module reads it.
-alarm_0 : (was : Mem) (h : History) (s : State) (m : Mem) → Holds was h s m → timer.alarm m Alarm0 ≡ alarms.alarm was h Alarm0
-alarm_0 was h s m k = λ i.
+-- An alarm as the module reads it.
+alarm_read : (was : Mem) (h : History) (s : State) (m : Mem) (alarm : Section) → first_of alarm ≤ 8 → Holds was h s m
+    → timer.alarm m alarm ≡ alarms.alarm was h alarm
+alarm_read was h s m alarm low k =
+    let at = λ (j : ℕ) (below : j < 8). k.bytes (place_of Registers (first_of alarm + j)) (omega arith) in
+    λ i.
     record {
-      seconds = k.bytes 512 (lit< tt) i;
-      minutes = k.bytes 513 (lit< tt) i;
-      hours = k.bytes 514 (lit< tt) i;
-      date = k.bytes 515 (lit< tt) i;
-      month = k.bytes 516 (lit< tt) i;
-      year = k.bytes 517 (lit< tt) i;
-      weekday = k.bytes 518 (lit< tt) i;
-      century = k.bytes 519 (lit< tt) i;
-    }
-
--- The second.
-alarm_1 : (was : Mem) (h : History) (s : State) (m : Mem) → Holds was h s m → timer.alarm m Alarm1 ≡ alarms.alarm was h Alarm1
-alarm_1 was h s m k = λ i.
-    record {
-      seconds = k.bytes 520 (lit< tt) i;
-      minutes = k.bytes 521 (lit< tt) i;
-      hours = k.bytes 522 (lit< tt) i;
-      date = k.bytes 523 (lit< tt) i;
-      month = k.bytes 524 (lit< tt) i;
-      year = k.bytes 525 (lit< tt) i;
-      weekday = k.bytes 526 (lit< tt) i;
-      century = k.bytes 527 (lit< tt) i;
+      bytes =
+          record {
+            seconds = at 0 (lit< tt) i;
+            minutes = at 1 (lit< tt) i;
+            hours = at 2 (lit< tt) i;
+            date = at 3 (lit< tt) i;
+            month = at 4 (lit< tt) i;
+            year = at 5 (lit< tt) i;
+            weekday = at 6 (lit< tt) i;
+            century = at 7 (lit< tt) i;
+          };
     }
 
 -- What was on stays on, and a match puts it on.
@@ -214,9 +209,9 @@ tick_mark was h s m u e k =
     let d : Clock = (marked s.timer).clock in
     let now : d ≡ clock (tick_entry h ∷ h) = ap₂ (λ (o : Option Clock) (x : Clock). unwrap_or o (next x)) k.holds.waits k.holds.shown ∙ sym (clock_moves h e) in
     let m0 : matched was Alarm0 (tick_at h) ≡ matches (timer.alarm m Alarm0) d =
-    matched_mark was h Alarm0 (timer.alarm m Alarm0) d e (alarm_0 was h s m k.holds) now in
+    matched_mark was h Alarm0 (timer.alarm m Alarm0) d e (alarm_read was h s m Alarm0 (omega arith) k.holds) now in
     let m1 : matched was Alarm1 (tick_at h) ≡ matches (timer.alarm m Alarm1) d =
-    matched_mark was h Alarm1 (timer.alarm m Alarm1) d e (alarm_1 was h s m k.holds) now in
+    matched_mark was h Alarm1 (timer.alarm m Alarm1) d e (alarm_read was h s m Alarm1 (omega arith) k.holds) now in
     record {
       holds =
           holds_ticked was h s m (s.cycle - 1) (marked s.timer) (joined s.flags (matching m d)) (joined s.copies.matched (matching m d))

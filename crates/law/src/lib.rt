@@ -20,7 +20,5 @@ pub fn run<M: Memory>(memory: &mut M, calls: &[Call], rows: &mut [Answer]) -> Mo
     ensures replayed { Replayed (min (length calls.now) (length rows.old)) (M.holds memory.old) calls.now rows.old rows.new result.state (M.holds memory.new) }
     ensures unmoved { (M.holds memory.old).fit ≡ false → Unmoved (min (length calls.now) (length rows.old)) (M.holds memory.old) rows.new result.state (M.holds memory.new) }
 {
-    // A fit memory shows that it has one byte for each place.
-    let _ = memory.is_fit();
     replay(memory, calls, rows)
 }

@@ -14,7 +14,7 @@ abbrev pub untimed : ℕ → ℕ → Weighing
 untimed truck gross = record {
   truck = truck;
   gross = gross;
-  stamp = record { seconds = 0; minutes = 0; hours = 0; date = 0; month = 0; year = 0; weekday = 0; century = 0 };
+  stamp = record { clock = record { seconds = 0; minutes = 0; hours = 0; date = 0; month = 0; year = 0; weekday = 0; century = 0 } };
 }
 
 -- Each step is answered as its call of the ledger is.

@@ -1,5 +1,6 @@
 -- How a tare and a weighing lie in bytes, highest byte first.
 use Rattle.std.specs.Prelude.{ℕ, ◌+◌, ◌*◌, ◌/◌, ◌%◌, cond, List, [], ◌∷◌, Some, None, Option, ◌==◌, slice_index}
+use Rattle.calendar.specs.declared.clock.Clock.{Clock}
 use Rattle.ledger.specs.declared.records.Stamp.{Stamp}
 use Rattle.ledger.specs.declared.records.Tare.{Tare}
 use Rattle.ledger.specs.declared.records.Weighing.{Weighing}
@@ -25,9 +26,16 @@ tare_of bytes =
     (Some (record { weight = slice_index bytes 4 * 16777216 + slice_index bytes 5 * 65536 + slice_index bytes 6 * 256 + slice_index bytes 7 }))
     None
 
+-- The eight clock bytes, one for one.
+abbrev pub stamp_from : Clock → Stamp
+stamp_from c = record { clock = c }
+
+abbrev pub clock_from : Stamp → Clock
+clock_from s = s.clock
+
 -- The time of a weighing: the eight clock bytes, seconds first.
 abbrev pub stamp_of : List ℕ → Stamp
-stamp_of bytes = record {
+stamp_of bytes = stamp_from (record {
   seconds = slice_index bytes 8;
   minutes = slice_index bytes 9;
   hours = slice_index bytes 10;
@@ -36,15 +44,16 @@ stamp_of bytes = record {
   year = slice_index bytes 13;
   weekday = slice_index bytes 14;
   century = slice_index bytes 15;
-}
+})
 
 -- A weighing: the mark, a byte of 00h, the truck, the gross weight, and the time.
 abbrev pub weighing_bytes : Weighing → List ℕ
 weighing_bytes w =
+    let clock = clock_from w.stamp in
     present ∷ 0 ∷ (w.truck / 256 % 256) ∷ (w.truck % 256)
     ∷ (w.gross / 16777216 % 256) ∷ (w.gross / 65536 % 256) ∷ (w.gross / 256 % 256) ∷ (w.gross % 256)
-    ∷ w.stamp.seconds ∷ w.stamp.minutes ∷ w.stamp.hours ∷ w.stamp.date
-    ∷ w.stamp.month ∷ w.stamp.year ∷ w.stamp.weekday ∷ w.stamp.century ∷ []
+    ∷ clock.seconds ∷ clock.minutes ∷ clock.hours ∷ clock.date
+    ∷ clock.month ∷ clock.year ∷ clock.weekday ∷ clock.century ∷ []
 
 -- The weighing that sixteen bytes hold, if their mark says that there is one.
 abbrev pub weighing_of : List ℕ → Option Weighing

@@ -1,11 +1,11 @@
 //! The ledger over any memory: set a tare, enter a weighing, read both back, and bill.
-ghost use Rattle.std.specs.Prelude.{◌≡◌, if◌then◌else◌, Ok, Err, nat_lt};
-ghost use Rattle.ledger.specs.declared.error.LedgerError.TheVariants.{Light};
+ghost use Rattle.std.specs.Prelude.{◌≡◌, ◌^◌, ◌<◌, is_ok, if◌then◌else◌};
+ghost use Rattle.memory.specs.Runs.{store, with_run};
 ghost use Rattle.ledger.specs.Layout.{tare_place, weighing_place};
-ghost use Rattle.ledger.specs.Book.{tare_answer, weighing_answer, set_tare_answer, set_tare_after, free_answer, weigh_answer, weigh_after, invoice, due, bill_answer, bill_after};
+ghost use Rattle.ledger.specs.Book.{from_memory, record_answer, truck_check, tare_answer, weighing_answer, set_tare_answer, set_tare_after, free_answer, weigh_answer, weigh_after, invoice_answer, due, bill_answer, bill_after};
 
 use crate::error::LedgerError;
-use crate::records::{Stamp, TARE_SIZE, Tare, WEIGHING_SIZE, Weighing};
+use crate::records::{Record, Stamp, TARE_SIZE, Tare, WEIGHING_SIZE, Weighing};
 use memory::{Memory, fetch, store};
 
 /// The trucks that have a tare, numbered from 0.
@@ -27,30 +27,81 @@ pub struct Invoice {
     pub stamp: Stamp,
 }
 
+impl Invoice {
+    /// The invoice for a load, by the tare of its truck.
+    pub fn of(load: Weighing, tare: Tare) -> Result<Invoice, LedgerError>
+        ensures { result ≡ invoice_answer load tare }
+    {
+        if load.gross < tare.weight {
+            return Err(LedgerError::Light);
+        }
+        Ok(Invoice {
+            truck: load.truck,
+            gross: load.gross,
+            tare: tare.weight,
+            net: load.gross - tare.weight,
+            stamp: load.stamp,
+        })
+    }
+}
+
 /// Where the tare of a truck lies.
-fn tare_place(truck: u16) -> usize
+pub fn tare_place(truck: u16) -> usize
     ensures { result ≡ tare_place truck }
 {
     usize::from(truck) * TARE_SIZE
 }
 
 /// Where the weighing of a ticket lies.
-fn weighing_place(ticket: u16) -> usize
+pub fn weighing_place(ticket: u16) -> usize
     ensures { result ≡ weighing_place ticket }
 {
     usize::from(TRUCKS) * TARE_SIZE + usize::from(ticket) * WEIGHING_SIZE
+}
+
+/// Refuses a truck that there is not.
+fn check_truck(truck: u16) -> Result<(), LedgerError>
+    ensures { result ≡ truck_check truck }
+{
+    if truck >= TRUCKS {
+        return Err(LedgerError::NoTruck);
+    }
+    Ok(())
+}
+
+/// The record at a place, if there is one.
+fn record_at<M: Memory, R: Record<N>, const N: usize>(
+    memory: &M,
+    place: usize,
+) -> Result<Option<R>, LedgerError>
+    requires { N < 2 ^ 63 }
+    ensures { result ≡ record_answer R.decoded (M.holds memory.now) place N }
+{
+    let mut bytes = [0; N];
+    fetch(memory, place, &mut bytes)?;
+    Ok(R::decode(bytes))
+}
+
+/// Stores a record at a place, all of it or nothing.
+fn store_record<M: Memory, R: Record<N>, const N: usize>(
+    memory: &mut M,
+    place: usize,
+    kept: R,
+) -> Result<(), LedgerError>
+    requires { N < 2 ^ 63 }
+    ensures answer { result ≡ from_memory (store (M.holds memory.old) place N) }
+    ensures after { M.holds memory.new ≡ (if is_ok result then with_run (M.holds memory.old) place (R.encoded kept) else M.holds memory.old) }
+{
+    store(memory, place, &kept.encode())?;
+    Ok(())
 }
 
 /// The tare of a truck.
 pub fn tare<M: Memory>(memory: &M, truck: u16) -> Result<Tare, LedgerError>
     ensures { result ≡ tare_answer (M.holds memory.now) truck }
 {
-    if truck >= TRUCKS {
-        return Err(LedgerError::NoTruck);
-    }
-    let mut bytes = [0; TARE_SIZE];
-    fetch(memory, tare_place(truck), &mut bytes)?;
-    Tare::decode(bytes).ok_or(LedgerError::NoTare)
+    check_truck(truck)?;
+    record_at(memory, tare_place(truck))?.ok_or(LedgerError::NoTare)
 }
 
 /// The weighing that a ticket holds, if it holds one that is not yet billed.
@@ -60,9 +111,7 @@ pub fn weighing<M: Memory>(memory: &M, ticket: u16) -> Result<Option<Weighing>, 
     if ticket >= TICKETS {
         return Err(LedgerError::NoTicket);
     }
-    let mut bytes = [0; WEIGHING_SIZE];
-    fetch(memory, weighing_place(ticket), &mut bytes)?;
-    Ok(Weighing::decode(bytes))
+    record_at(memory, weighing_place(ticket))
 }
 
 /// Sets the tare of a truck, over the one it had.
@@ -70,11 +119,8 @@ pub fn set_tare<M: Memory>(memory: &mut M, truck: u16, tare: Tare) -> Result<(),
     ensures answer { result ≡ set_tare_answer (M.holds memory.old) truck }
     ensures after { M.holds memory.new ≡ set_tare_after (M.holds memory.old) truck tare }
 {
-    if truck >= TRUCKS {
-        return Err(LedgerError::NoTruck);
-    }
-    store(memory, tare_place(truck), &tare.encode())?;
-    Ok(())
+    check_truck(truck)?;
+    store_record(memory, tare_place(truck), tare)
 }
 
 /// Refuses a ticket that holds a weighing not yet billed.
@@ -92,39 +138,18 @@ pub fn weigh<M: Memory>(memory: &mut M, ticket: u16, load: Weighing) -> Result<(
     ensures answer { result ≡ weigh_answer (M.holds memory.old) ticket load.truck }
     ensures after { M.holds memory.new ≡ weigh_after (M.holds memory.old) ticket load }
 {
-    if load.truck >= TRUCKS {
-        return Err(LedgerError::NoTruck);
-    }
+    check_truck(load.truck)?;
     check_free(memory, ticket)?;
-    store(memory, weighing_place(ticket), &load.encode())?;
-    Ok(())
-}
-
-/// The bill for a load, by the tare of its truck.
-fn invoice_for(load: Weighing, tare: Tare) -> Result<Invoice, LedgerError>
-    ensures { result ≡ (if nat_lt load.gross tare.weight then Err Light else Ok (invoice load tare)) }
-{
-    if load.gross < tare.weight {
-        return Err(LedgerError::Light);
-    }
-    Ok(Invoice {
-        truck: load.truck,
-        gross: load.gross,
-        tare: tare.weight,
-        net: load.gross - tare.weight,
-        stamp: load.stamp,
-    })
+    store_record(memory, weighing_place(ticket), load)
 }
 
 /// What the weighing of a ticket will be billed.
 pub fn due<M: Memory>(memory: &M, ticket: u16) -> Result<Invoice, LedgerError>
     ensures { result ≡ due (M.holds memory.now) ticket }
 {
-    let Some(load) = weighing(memory, ticket)? else {
-        return Err(LedgerError::NotOpen);
-    };
+    let load = weighing(memory, ticket)?.ok_or(LedgerError::NotOpen)?;
     let tare = tare(memory, load.truck)?;
-    invoice_for(load, tare)
+    Invoice::of(load, tare)
 }
 
 /// Bills the weighing of a ticket, and frees the ticket for the next.

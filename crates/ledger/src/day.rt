@@ -32,6 +32,7 @@ pub enum Outcome {
 
 impl Step {
     /// Works this step over a memory.
+    // A match, since steps are values that are planned, compared and printed.
     pub fn work<M: Memory>(self, memory: &mut M) -> Result<Outcome, LedgerError>
         ensures answer { result ≡ step_answer (M.holds memory.old) self }
         ensures after { M.holds memory.new ≡ step_after (M.holds memory.old) self }
@@ -81,16 +82,12 @@ impl fmt::Display for Outcome {
             Outcome::TareSet => write!(f, "set"),
             Outcome::Weighed => write!(f, "entered"),
             Outcome::Held(None) => write!(f, "nothing to bill"),
-            Outcome::Held(Some(load)) => {
-                let truck = load.truck;
-                let gross = load.gross;
-                write!(f, "truck {truck}, gross {gross} kg")
-            }
-            Outcome::Billed(invoice) => {
-                let truck = invoice.truck;
-                let net = invoice.net;
-                write!(f, "truck {truck}, net {net} kg")
-            }
+            Outcome::Held(Some(load)) => write!(f, "truck {}, gross {} kg", load.truck, load.gross),
+            Outcome::Billed(invoice) => write!(
+                f,
+                "truck {}, net {} kg",
+                invoice.truck, invoice.net
+            ),
         }
     }
 }

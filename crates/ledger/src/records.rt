@@ -1,6 +1,8 @@
 //! The records of the ledger, and how they lie in bytes.
-ghost use Rattle.std.specs.Prelude.{◌≡◌, Some};
-ghost use Rattle.ledger.specs.Records.{tare_bytes, tare_of, stamp_of, weighing_bytes, weighing_of};
+ghost use Rattle.std.specs.Prelude.{◌≡◌, ℕ, List, Some, Option};
+ghost use Rattle.ledger.specs.Records.{clock_from, stamp_from, tare_bytes, tare_of, weighing_bytes, weighing_of};
+
+use calendar::Clock;
 
 /// The bytes of a tare record.
 pub const TARE_SIZE: usize = 8;
@@ -11,6 +13,24 @@ pub const WEIGHING_SIZE: usize = 16;
 /// The first byte of a record that is there.
 const PRESENT: u8 = 0xA5;
 
+/// A record of `N` bytes.
+pub trait Record<const N: usize>: Sized {
+    // The bytes of a record.
+    ghost encoded: { Self → List ℕ };
+
+    // The record that bytes hold, if they hold one.
+    ghost decoded: { List ℕ → Option Self };
+
+    /// The bytes of this record. It comes back from them.
+    fn encode(self) -> [u8; N]
+        ensures bytes { result ≡ encoded self }
+        ensures back { decoded result ≡ Some self };
+
+    /// The record that bytes hold, if they hold one.
+    fn decode(bytes: [u8; N]) -> Option<Self>
+        ensures { result ≡ decoded bytes.entry };
+}
+
 /// The weight of an empty truck, in kilograms.
 #[derive(Clone, Copy, PartialEq, Eq, Debug)]
 pub struct Tare {
@@ -20,14 +40,7 @@ pub struct Tare {
 /// The time of a weighing: the eight clock bytes, all 00h where there is no clock.
 #[derive(Clone, Copy, PartialEq, Eq, Debug)]
 pub struct Stamp {
-    pub seconds: u8,
-    pub minutes: u8,
-    pub hours: u8,
-    pub date: u8,
-    pub month: u8,
-    pub year: u8,
-    pub weekday: u8,
-    pub century: u8,
+    pub clock: Clock,
 }
 
 /// A truck on the bridge: which it is, what it weighs with its load, in kilograms, and when.
@@ -38,9 +51,46 @@ pub struct Weighing {
     pub stamp: Stamp,
 }
 
-impl Tare {
-    /// The bytes of this tare.
-    pub fn encode(self) -> [u8; TARE_SIZE]
+impl Stamp {
+    /// No time.
+    pub const NONE: Stamp = Stamp {
+        clock: Clock {
+            seconds: 0,
+            minutes: 0,
+            hours: 0,
+            date: 0,
+            month: 0,
+            year: 0,
+            weekday: 0,
+            century: 0,
+        },
+    };
+}
+
+impl From<Clock> for Stamp {
+    // The clock is in the stamp, and comes back from it.
+    ghost from_gives = { λ clock stamp. (stamp ≡ stamp_from clock) × (clock_from stamp ≡ clock) };
+
+    fn from(clock: Clock) -> Stamp {
+        Stamp { clock }
+    }
+}
+
+impl From<Stamp> for Clock {
+    // The stamp's clock, from which the stamp comes back.
+    ghost from_gives = { λ stamp clock. (clock ≡ clock_from stamp) × (stamp_from clock ≡ stamp) };
+
+    fn from(stamp: Stamp) -> Clock {
+        stamp.clock
+    }
+}
+
+impl Record<TARE_SIZE> for Tare {
+    ghost encoded = { tare_bytes };
+
+    ghost decoded = { tare_of };
+
+    fn encode(self) -> [u8; TARE_SIZE]
         ensures bytes { result ≡ tare_bytes self }
         ensures back { tare_of result ≡ Some self }
     {
@@ -48,8 +98,7 @@ impl Tare {
         [PRESENT, 0, 0, 0, weight[0], weight[1], weight[2], weight[3]]
     }
 
-    /// The tare that bytes hold, if they hold one.
-    pub fn decode(bytes: [u8; TARE_SIZE]) -> Option<Tare>
+    fn decode(bytes: [u8; TARE_SIZE]) -> Option<Tare>
         ensures { result ≡ tare_of bytes }
     {
         if bytes[0] != PRESENT {
@@ -60,45 +109,18 @@ impl Tare {
     }
 }
 
-impl Stamp {
-    /// No time.
-    pub const NONE: Stamp = Stamp {
-        seconds: 0,
-        minutes: 0,
-        hours: 0,
-        date: 0,
-        month: 0,
-        year: 0,
-        weekday: 0,
-        century: 0,
-    };
+impl Record<WEIGHING_SIZE> for Weighing {
+    ghost encoded = { weighing_bytes };
 
-    /// The time that the bytes of a weighing hold.
-    fn decode(bytes: [u8; WEIGHING_SIZE]) -> Stamp
-        ensures { result ≡ stamp_of bytes }
-    {
-        Stamp {
-            seconds: bytes[8],
-            minutes: bytes[9],
-            hours: bytes[10],
-            date: bytes[11],
-            month: bytes[12],
-            year: bytes[13],
-            weekday: bytes[14],
-            century: bytes[15],
-        }
-    }
-}
+    ghost decoded = { weighing_of };
 
-impl Weighing {
-    /// The bytes of this weighing.
-    pub fn encode(self) -> [u8; WEIGHING_SIZE]
+    fn encode(self) -> [u8; WEIGHING_SIZE]
         ensures bytes { result ≡ weighing_bytes self }
         ensures back { weighing_of result ≡ Some self }
     {
         let truck = self.truck.to_be_bytes();
         let gross = self.gross.to_be_bytes();
-        let stamp = self.stamp;
+        let clock = Clock::from(self.stamp);
         [
             PRESENT,
             0,
@@ -108,19 +130,18 @@ impl Weighing {
             gross[1],
             gross[2],
             gross[3],
-            stamp.seconds,
-            stamp.minutes,
-            stamp.hours,
-            stamp.date,
-            stamp.month,
-            stamp.year,
-            stamp.weekday,
-            stamp.century,
+            clock.seconds,
+            clock.minutes,
+            clock.hours,
+            clock.date,
+            clock.month,
+            clock.year,
+            clock.weekday,
+            clock.century,
         ]
     }
 
-    /// The weighing that bytes hold, if they hold one.
-    pub fn decode(bytes: [u8; WEIGHING_SIZE]) -> Option<Weighing>
+    fn decode(bytes: [u8; WEIGHING_SIZE]) -> Option<Weighing>
         ensures { result ≡ weighing_of bytes }
     {
         if bytes[0] != PRESENT {
@@ -128,11 +149,20 @@ impl Weighing {
         }
         let truck = u16::from_be_bytes([bytes[2], bytes[3]]);
         let gross = u32::from_be_bytes([bytes[4], bytes[5], bytes[6], bytes[7]]);
-        let stamp = Stamp::decode(bytes);
+        let clock = Clock {
+            seconds: bytes[8],
+            minutes: bytes[9],
+            hours: bytes[10],
+            date: bytes[11],
+            month: bytes[12],
+            year: bytes[13],
+            weekday: bytes[14],
+            century: bytes[15],
+        };
         Some(Weighing {
             truck,
             gross,
-            stamp,
+            stamp: Stamp::from(clock),
         })
     }
 }

@@ -1,13 +1,13 @@
 -- The bytes that records give: at each place, and with one record more.
-use Rattle.std.proofs.Common.{◌≡◌, ℕ, ◌+◌, ◌/◌, ◌%◌, ◌<◌, ◌≤◌, true, ◌||◌, eqb, ltb, List, [], ◌∷◌, ◌++◌, length, get_or, take, set, replicate, fold, sym, ap, ◌∙◌, ⊎_elim, mod-lt, arith}
+use Rattle.std.proofs.Common.{◌≡◌, ℕ, ◌+◌, ◌-◌, ◌/◌, ◌%◌, ◌<◌, ◌≤◌, true, eqb, List, [], ◌∷◌, ◌++◌, length, get_or, take, set, replicate, sym, ap, ◌∙◌, ⊎_elim, arith}
 use Rattle.std.proofs.lemmas.List.FromFn.{length-map-range_with_len, get_or-map-range_with_len, fill_by_all}
-use Rattle.std.proofs.lemmas.List.{ext_get_or, length-set, get_or-set_same, get_or-set_other, get_or_past, length-replicate, get_or-replicate, take_more}
+use Rattle.std.proofs.lemmas.List.{length-set, get_or-set_same, get_or-set_other, length-replicate, drop-replicate, take_more}
 use lib.Seq.{paste}
-use Rattle.std.proofs.lemmas.List.Edits.{paste_more}
+use Rattle.std.proofs.lemmas.List.Edits.{paste_more, paste_all}
 use Rattle.std.proofs.lemmas.List.Sums.{fold_push}
-use Rattle.std.proofs.lemmas.Bool.{cases_eq, cases_lt, cond_both, cond-true, cond-false, eq-eqb, ne_eqb, ltb-true, lt-ltb}
-use Rattle.memory.specs.Sizes.{array_places, places, byte_values, record_limit}
-use Rattle.memory.specs.Journal.{factory, replaced, byte_at, bytes_of, is_record, record_word, records_of}
+use Rattle.std.proofs.lemmas.Bool.{cases_eq, cond-true, cond-false, eq-eqb, ne_eqb, lt-ltb}
+use Rattle.memory.specs.Sizes.{places, byte_values, record_limit}
+use Rattle.memory.specs.Journal.{blank, factory, replaced, byte_at, bytes_of, is_record, record_word, records_of}
 
 pub length_bytes_of : (rs : List ℕ) → length (bytes_of rs) ≡ places
 unfolding bytes_of
@@ -21,13 +21,6 @@ get_or_bytes_of rs place low = get_or-map-range_with_len (byte_at rs) 0 places p
 pub bytes_from : (xs rs : List ℕ) → length xs ≡ places → ((k : ℕ) → k < places → get_or xs k 0 ≡ byte_at rs k) → xs ≡ bytes_of rs
 unfolding bytes_of
 bytes_from xs rs long each = fill_by_all (byte_at rs) xs places 0 long each
-
--- The place and the byte of a record.
-pub record_low : (word : ℕ) → is_record word ≡ true → word / byte_values < places
-record_low word is = let below = ltb-true word record_limit is in omega arith
-
-pub record_small : (word : ℕ) → word % byte_values < byte_values
-record_small word = mod-lt word (omega arith)
 
 -- The byte at a place is its record's, or the one before.
 pub byte_at_push : (rs : List ℕ) (word place : ℕ) → byte_at (rs ++ (word ∷ [])) place ≡ replaced place (byte_at rs place) word
@@ -51,27 +44,6 @@ bytes_push rs word is =
         ∙ get_or-set_same (bytes_of rs) (word / byte_values) (word % byte_values) 0 (omega (arith, length_bytes_of rs))
         ∙ sym (byte_at_push rs word k ∙ cond-true (eqb (word / byte_values) k) _ _ (eq-eqb (word / byte_values) k same))
 
--- Every byte is below 256.
-factory_small : (place : ℕ) → factory place < byte_values
-factory_small place =
-    cond_both (ltb place array_places) 0xFF _ (λ b. b < byte_values) (λ _. omega arith)
-    (λ _. cond_both (eqb place (array_places + 0x07) || eqb place (array_places + 0x0F)) 0x20 0x00 (λ b. b < byte_values) (λ _. omega arith) (λ _. omega arith))
-
-folded_small : (rs : List ℕ) (place byte : ℕ) → byte < byte_values → fold (replaced place) byte rs < byte_values
-folded_small [] place byte small = small
-folded_small (w ∷ ws) place byte small =
-    folded_small ws place (replaced place byte w)
-    (cond_both (eqb (w / byte_values) place) (w % byte_values) byte (λ b. b < byte_values) (λ _. record_small w) (λ _. small))
-
-pub byte_at_small : (rs : List ℕ) (place : ℕ) → byte_at rs place < byte_values
-byte_at_small rs place = folded_small rs place (factory place) (factory_small place)
-
-pub bytes_small : (rs : List ℕ) (place : ℕ) → get_or (bytes_of rs) place 0 < byte_values
-bytes_small rs place =
-    ⊎_elim (λ low. rw (get_or_bytes_of rs place low) (byte_at_small rs place))
-    (λ past. rw (get_or_past (bytes_of rs) place 0 (omega (arith, length_bytes_of rs))) (omega arith))
-    (cases_lt place places)
-
 -- A word made of a place and a byte is a record, of that place and byte.
 module _ (place byte : ℕ) (low : place < places) (small : byte < byte_values) where
   pub word_is_record : is_record (record_word place byte) ≡ true
@@ -82,11 +54,6 @@ module _ (place byte : ℕ) (low : place < places) (small : byte < byte_values) 
 
   pub word_byte : record_word place byte % byte_values ≡ byte
   word_byte = omega arith
-
--- A list with the same number at each place.
-pub filled : (xs : List ℕ) (n x : ℕ) → length xs ≡ n → ((k : ℕ) → k < n → get_or xs k 0 ≡ x) → xs ≡ replicate n x
-filled xs n x long each =
-    ext_get_or 0 xs (replicate n x) (long ∙ sym (length-replicate n x)) (λ k below. each k (omega arith) ∙ sym (get_or-replicate n k x 0 (omega arith)))
 
 -- The bytes gathered from the first words, one record more.
 pub gathered_more : (ws : List ℕ) (i : ℕ) (xs : List ℕ) (place byte : ℕ) → i < length ws → is_record (get_or ws i 0) ≡ true
@@ -106,11 +73,17 @@ pub get_or_records_of : (bs : List ℕ) (place : ℕ) → place < places → get
 unfolding records_of
 get_or_records_of bs place low = get_or-map-range_with_len (λ place. record_word place (get_or bs place 0)) 0 places place place 0 low (omega arith)
 
--- One record more that is laid down.
-pub laid_more : (ws bs : List ℕ) (now : List ℕ) (place word : ℕ) → places ≤ length ws → place < places
-    → now ≡ paste ws 0 (records_of bs) place → word ≡ record_word place (get_or bs place 0)
-    → set now place word ≡ paste ws 0 (records_of bs) (place + 1)
-laid_more ws bs now place word room low was is =
+-- One record more that is laid down on blanks.
+pub laid_more : (n : ℕ) (bs : List ℕ) (now : List ℕ) (place word : ℕ) → places ≤ n → place < places
+    → now ≡ paste (replicate n blank) 0 (records_of bs) place → word ≡ record_word place (get_or bs place 0)
+    → set now place word ≡ paste (replicate n blank) 0 (records_of bs) (place + 1)
+laid_more n bs now place word room low was is =
     let at : 0 + place ≡ place = omega arith in
     (λ j. set (was j) (sym at j) ((is ∙ sym (get_or_records_of bs place low)) j))
-    ∙ paste_more ws 0 (records_of bs) place 0 (omega arith) (omega (arith, length_records_of bs))
+    ∙ paste_more (replicate n blank) 0 (records_of bs) place 0 (omega (arith, length-replicate n blank)) (omega (arith, length_records_of bs))
+
+-- All records laid down on blanks.
+pub laid_on_blanks : (n : ℕ) (bs : List ℕ) → paste (replicate n blank) 0 (records_of bs) places ≡ records_of bs ++ replicate (n - places) blank
+laid_on_blanks n bs =
+    paste_all (replicate n blank) 0 (records_of bs) places (sym (length_records_of bs))
+    ∙ ap (λ xs. records_of bs ++ xs) (drop-replicate places n blank)

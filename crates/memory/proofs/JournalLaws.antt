@@ -1,17 +1,17 @@
 -- What a journal holds after a record more, and after its bytes are laid down anew.
-use Rattle.std.proofs.Common.{◌≡◌, ℕ, zero, suc, ◌+◌, ◌-◌, ◌*◌, ◌<◌, ◌≤◌, Bool, true, false, cond, eqb, ltb, leb, List, [], ◌∷◌, ◌++◌, map, length, get_or, set, replicate, Ok, sym, refl, ap, ◌∙◌, subst, ⊎_elim, add-mul, one-mul, zero-mul, add-one, one-add, arith}
+use Rattle.std.proofs.Common.{◌≡◌, ℕ, zero, suc, ◌+◌, ◌-◌, ◌*◌, ◌<◌, ◌≤◌, Bool, true, false, cond, eqb, ltb, List, [], ◌∷◌, ◌++◌, map, length, get_or, set, replicate, sym, refl, ap, ◌∙◌, subst, ⊎_elim, add-mul, one-mul, zero-mul, add-one, arith}
 use Rattle.std.specs.List.{range_with_len, prefix_len}
-use lib.Seq.{paste}
-use Rattle.std.proofs.lemmas.List.Edits.{paste_all}
 use Rattle.std.proofs.lemmas.List.FromFn.{map-range_with_len_more}
-use Rattle.std.proofs.lemmas.List.{length-set, length-append, length_push, length-replicate, drop-replicate}
+use Rattle.std.proofs.lemmas.List.{length-set, length-append, length_push, length-replicate}
 use Rattle.std.proofs.lemmas.List.Sums.{prefix_len-le-length}
-use Rattle.std.proofs.lemmas.Bool.{and_parts, and_from, leb-true, le-leb, eqb-true, eqb-false, cond-true, cond-false, cases_order, lt-ltb, le-ltb, eq-eqb, ne_eqb}
+use Rattle.std.proofs.lemmas.Bool.Decides.{nat_tests}
+use Rattle.std.proofs.lemmas.Bool.{eqb-true, eqb-false, cond-true, cond-false, cases_order, lt-ltb, le-ltb}
 use Rattle.memory.specs.Sizes.{places, byte_values, fewest_words, most_words, most_erasures}
-use Rattle.memory.specs.Model.{Whole, read, with_byte}
+use Rattle.memory.specs.Model.{with_byte}
 use Rattle.memory.specs.Journal.{blank, record_word, is_record, factory, byte_at, bytes_of, used_words, records, is_orderly, journal_fit, journal_life, journal, full, records_of, laid_down, with_room, erasures_after, words_after}
-use Rattle.memory.proofs.ByteLaws.{length_bytes_of, get_or_bytes_of, bytes_from, bytes_push, bytes_small, byte_at_push, word_is_record, word_place, word_byte, length_records_of, get_or_records_of}
-use Rattle.memory.proofs.WordLaws.{Laid, laid_of, laid_used, laid_records, laid_orderly, laid_append}
+use Rattle.memory.specs.Laws.{bytes_small}
+use Rattle.memory.proofs.ByteLaws.{length_bytes_of, bytes_from, bytes_push, byte_at_push, word_is_record, word_place, word_byte, length_records_of, get_or_records_of}
+use Rattle.memory.proofs.WordLaws.{leading_all, Laid, laid_of, laid_used, laid_records, laid_orderly, laid_append}
 
 -- What fitness says.
 pub record Fit (ws : List ℕ) (e : ℕ) : Type 0 where
@@ -21,26 +21,19 @@ pub record Fit (ws : List ℕ) (e : ℕ) : Type 0 where
   pub tidy : is_orderly ws ≡ true
 
 pub fit_parts : (ws : List ℕ) (e : ℕ) → journal_fit ws e ≡ true → Fit ws e
-fit_parts ws e fit =
-    let a = and_parts (leb fewest_words (length ws)) _ fit in
-    let b = and_parts (leb (length ws) most_words) _ a.1 in
-    let c = and_parts (leb e most_erasures) (is_orderly ws) b.1 in
-    record { enough = leb-true _ _ a.0; few = leb-true _ _ b.0; erasures = leb-true _ _ c.0; tidy = c.1 }
+fit_parts ws e fit = record {
+  enough = grind (arith, nat_tests);
+  few = grind (arith, nat_tests);
+  erasures = grind (arith, nat_tests);
+  tidy = grind (arith, nat_tests);
+}
 
 pub fit_from : (ws : List ℕ) (e : ℕ) → Fit ws e → journal_fit ws e ≡ true
-fit_from ws e f =
-    and_from _ _ (le-leb fewest_words (length ws) f.enough)
-    (and_from _ _ (le-leb (length ws) most_words f.few) (and_from _ _ (le-leb e most_erasures f.erasures) f.tidy))
+fit_from ws e f = grind (arith, nat_tests, f.enough, f.few, f.erasures, f.tidy)
 
 -- The last of n numbers, or one before it.
 pick : (n k d : ℕ) (f : ℕ → ℕ) → cond (eqb n k) (f n) (cond (ltb k n) (f k) d) ≡ cond (ltb k (suc n)) (f k) d
-pick n k d f =
-    ⊎_elim
-    (λ same. cond-true (eqb n k) _ _ (eq-eqb n k same) ∙ ap f same ∙ sym (cond-true (ltb k (suc n)) _ _ (lt-ltb k (suc n) (omega arith))))
-    (⊎_elim
-    (λ below. cond-false (eqb n k) _ _ (ne_eqb n k (λ e. omega arith)) ∙ cond-false (ltb k n) _ _ (le-ltb k n (omega arith)) ∙ sym (cond-false (ltb k (suc n)) _ _ (le-ltb k (suc n) (omega arith))))
-    (λ above. cond-false (eqb n k) _ _ (ne_eqb n k (λ e. omega arith)) ∙ cond-true (ltb k n) _ _ (lt-ltb k n above) ∙ sym (cond-true (ltb k (suc n)) _ _ (lt-ltb k (suc n) (omega arith)))))
-    (cases_order n k)
+pick n k d f = grind (arith, nat_tests)
 
 -- Records of bytes in rising order give these bytes again.
 laid_at : (bs : List ℕ) (k n : ℕ) → n ≤ places → ((j : ℕ) → get_or bs j 0 < byte_values)
@@ -61,28 +54,30 @@ bytes_of_records bs long small =
     sym (bytes_from bs (records_of bs) long (λ k low. sym (laid_at bs k places (omega arith) small ∙ cond-true (ltb k places) _ _ (lt-ltb k places low))))
 
 -- One record more, where there is room.
-module _ (ws : List ℕ) (e place byte : ℕ) (fit : journal_fit ws e ≡ true) (room : used_words ws < length ws) (low : place < places) (small : byte < byte_values) where
-  laid : Laid ws (records ws)
-  laid = laid_of ws (fit_parts ws e fit).tidy
-
-  pub appended_laid : Laid (set ws (used_words ws) (record_word place byte)) (records ws ++ (record_word place byte ∷ []))
+module _ (ws : List ℕ) (place byte : ℕ) (tidy : is_orderly ws ≡ true) (room : used_words ws < length ws) (low : place < places) (small : byte < byte_values) where
+  appended_laid : Laid (set ws (used_words ws) (record_word place byte)) (records ws ++ (record_word place byte ∷ []))
   appended_laid =
+      let laid = laid_of ws tidy in
       let u = laid_used ws (records ws) laid in
       let P : ℕ → Type 0 = λ n. Laid (set ws n (record_word place byte)) (records ws ++ (record_word place byte ∷ [])) in
       subst P (sym u) (laid_append ws (records ws) laid (record_word place byte) (word_is_record place byte low small) (omega arith))
 
   pub appended_used : used_words (set ws (used_words ws) (record_word place byte)) ≡ used_words ws + 1
-  appended_used = laid_used _ _ appended_laid ∙ length_push (records ws) (record_word place byte) ∙ ap (λ n. n + 1) (sym (laid_used ws (records ws) laid))
+  appended_used = laid_used _ _ appended_laid ∙ length_push (records ws) (record_word place byte) ∙ ap (λ n. n + 1) (sym (laid_used ws (records ws) (laid_of ws tidy)))
+
+module _ (ws : List ℕ) (e place byte : ℕ) (fit : journal_fit ws e ≡ true) (room : used_words ws < length ws) (low : place < places) (small : byte < byte_values) where
+  tidy : is_orderly ws ≡ true
+  tidy = (fit_parts ws e fit).tidy
 
   pub appended_fit : journal_fit (set ws (used_words ws) (record_word place byte)) e ≡ true
   appended_fit =
       let f = fit_parts ws e fit in
       let long = length-set ws (used_words ws) (record_word place byte) in
-      fit_from (set ws (used_words ws) (record_word place byte)) e (record { enough = omega (arith, f.enough); few = omega (arith, f.few); erasures = f.erasures; tidy = laid_orderly _ _ appended_laid })
+      fit_from (set ws (used_words ws) (record_word place byte)) e (record { enough = omega (arith, f.enough); few = omega (arith, f.few); erasures = f.erasures; tidy = laid_orderly _ _ (appended_laid ws place byte tidy room low small) })
 
   appended_bytes : bytes_of (records (set ws (used_words ws) (record_word place byte))) ≡ set (bytes_of (records ws)) place byte
   appended_bytes =
-      ap bytes_of (laid_records _ _ appended_laid)
+      ap bytes_of (laid_records _ _ (appended_laid ws place byte tidy room low small))
       ∙ bytes_push (records ws) (record_word place byte) (word_is_record place byte low small)
       ∙ (λ i. set (bytes_of (records ws)) (word_place place byte low small i) (word_byte place byte low small i))
 
@@ -90,7 +85,7 @@ module _ (ws : List ℕ) (e place byte : ℕ) (fit : journal_fit ws e ≡ true) 
   appended_life =
       let long = length-set ws (used_words ws) (record_word place byte) in
       let won : e * (length (set ws (used_words ws) (record_word place byte)) - places) ≡ e * (length ws - places) = ap (λ n. e * (n - places)) long in
-      omega (arith, appended_used)
+      omega (arith, appended_used ws place byte tidy room low small)
 
   pub appended_is : journal (set ws (used_words ws) (record_word place byte)) e ≡ with_byte (journal ws e) place byte
   appended_is =
@@ -99,18 +94,12 @@ module _ (ws : List ℕ) (e place byte : ℕ) (fit : journal_fit ws e ≡ true) 
       cond-true _ _ 0 appended_fit ∙ appended_life ∙ ap (λ n. n - 1) (sym (cond-true (journal_fit ws e) _ 0 fit)) in
       λ i. record { fit = (appended_fit ∙ sym fit) i; bytes = appended_bytes i; life = life i }
 
-leading_all : (p : ℕ → Bool) (xs : List ℕ) → ((k : ℕ) → k < length xs → p (get_or xs k 0) ≡ true) → prefix_len p xs ≡ length xs
-leading_all p [] each = refl
-leading_all p (x ∷ xs) each =
-    cond-true (p x) _ 0 (each 0 (omega arith)) ∙ ap (λ n. 1 + n) (leading_all p xs (λ k below. each (suc k) (omega arith))) ∙ one-add (length xs)
-
--- The bytes laid down anew, where the journal is full.
-module _ (ws : List ℕ) (e : ℕ) (fit : journal_fit ws e ≡ true) (is-full : used_words ws ≡ length ws) (spare : 0 < e) where
+-- The bytes laid down anew.
+module _ (ws : List ℕ) (enough : places ≤ length ws) where
   pub down_long : length (laid_down ws) ≡ length ws
   down_long =
-      let f = fit_parts ws e fit in
       length-append (records_of (bytes_of (records ws))) (replicate (length ws - places) blank)
-      ∙ omega (arith, length_records_of (bytes_of (records ws)), length-replicate (length ws - places) blank, f.enough)
+      ∙ omega (arith, length_records_of (bytes_of (records ws)), length-replicate (length ws - places) blank)
 
   down_proper : prefix_len is_record (records_of (bytes_of (records ws))) ≡ length (records_of (bytes_of (records ws)))
   down_proper =
@@ -119,13 +108,12 @@ module _ (ws : List ℕ) (e : ℕ) (fit : journal_fit ws e ≡ true) (is-full : 
       ap is_record (get_or_records_of (bytes_of (records ws)) k low)
       ∙ word_is_record k (get_or (bytes_of (records ws)) k 0) low (bytes_small (records ws) k))
 
-  down_laid : Laid (laid_down ws) (records_of (bytes_of (records ws)))
+  pub down_laid : Laid (laid_down ws) (records_of (bytes_of (records ws)))
   down_laid =
-      let f = fit_parts ws e fit in
       let counted = length_records_of (bytes_of (records ws)) in
       let left : length ws - places ≡ length (laid_down ws) - length (records_of (bytes_of (records ws))) = omega (arith, down_long) in
       record {
-        fits = omega (arith, down_long, f.enough);
+        fits = omega (arith, down_long);
         proper = down_proper;
         shape = ap (λ n. records_of (bytes_of (records ws)) ++ replicate n blank) left;
       }
@@ -133,20 +121,25 @@ module _ (ws : List ℕ) (e : ℕ) (fit : journal_fit ws e ≡ true) (is-full : 
   pub down_used : used_words (laid_down ws) ≡ places
   down_used = laid_used _ _ down_laid ∙ length_records_of (bytes_of (records ws))
 
+-- The same where the journal is full: it spends one erasure, and holds what it held.
+module _ (ws : List ℕ) (e : ℕ) (fit : journal_fit ws e ≡ true) (is-full : used_words ws ≡ length ws) (spare : 0 < e) where
+  enough : places ≤ length ws
+  enough = let f = fit_parts ws e fit in omega (arith, f.enough)
+
   pub down_fit : journal_fit (laid_down ws) (e - 1) ≡ true
   down_fit =
       let f = fit_parts ws e fit in
-      fit_from (laid_down ws) (e - 1) (record { enough = omega (arith, down_long, f.enough); few = omega (arith, down_long, f.few); erasures = omega (arith, f.erasures); tidy = laid_orderly _ _ down_laid })
+      fit_from (laid_down ws) (e - 1) (record { enough = omega (arith, down_long ws enough, f.enough); few = omega (arith, down_long ws enough, f.few); erasures = omega (arith, f.erasures); tidy = laid_orderly _ _ (down_laid ws enough) })
 
   down_bytes : bytes_of (records (laid_down ws)) ≡ bytes_of (records ws)
-  down_bytes = ap bytes_of (laid_records _ _ down_laid) ∙ bytes_of_records (bytes_of (records ws)) (length_bytes_of (records ws)) (bytes_small (records ws))
+  down_bytes = ap bytes_of (laid_records _ _ (down_laid ws enough)) ∙ bytes_of_records (bytes_of (records ws)) (length_bytes_of (records ws)) (bytes_small (records ws))
 
   down_life : journal_life (laid_down ws) (e - 1) ≡ journal_life ws e
   down_life =
-      let won : (e - 1) * (length (laid_down ws) - places) ≡ (e - 1) * (length ws - places) = ap (λ n. (e - 1) * (n - places)) down_long in
+      let won : (e - 1) * (length (laid_down ws) - places) ≡ (e - 1) * (length ws - places) = ap (λ n. (e - 1) * (n - places)) (down_long ws enough) in
       let one : e * (length ws - places) ≡ (e - 1) * (length ws - places) + (length ws - places) =
       ap (λ n. n * (length ws - places)) (omega arith) ∙ add-mul (e - 1) 1 (length ws - places) ∙ ap (λ n. (e - 1) * (length ws - places) + n) (one-mul (length ws - places)) in
-      omega (arith, down_used, down_long)
+      omega (arith, down_used ws enough, down_long ws enough)
 
   pub down_is : journal (laid_down ws) (e - 1) ≡ journal ws e
   down_is =
@@ -176,7 +169,7 @@ module _ (ws : List ℕ) (e : ℕ) (fit : journal_fit ws e ≡ true) (alive : 0 
       let all = eqb-true (used_words ws) (length ws) is in
       let spare = spare_erasure ws e fit alive all in
       let f = fit_parts ws e fit in
-      (down_is ws e fit all spare, down_fit ws e fit all spare, omega (arith, down_used ws e fit all spare, down_long ws e fit all spare, f.enough))
+      (down_is ws e fit all spare, down_fit ws e fit all spare, omega (arith, down_used ws (omega (arith, f.enough)), down_long ws (omega (arith, f.enough)), f.enough))
   room_by false is =
       let some = eqb-false (used_words ws) (length ws) is in
       (refl, fit, ⊎_elim (λ same. absurd (some same)) (⊎_elim (λ below. below) (λ above. absurd (omega (arith, prefix_len-le-length is_record ws)))) (cases_order (used_words ws) (length ws)))
@@ -190,23 +183,3 @@ module _ (ws : List ℕ) (e : ℕ) (fit : journal_fit ws e ≡ true) (alive : 0 
   words_after_is place byte low small =
       appended_is (with_room ws) (erasures_after ws e) place byte room_made.fit room_made.left low small
       ∙ ap (λ m. with_byte m place byte) room_made.is
-
-  pub words_after_fit : (place byte : ℕ) → place < places → byte < byte_values → journal_fit (words_after ws place byte) (erasures_after ws e) ≡ true
-  words_after_fit place byte low small = appended_fit (with_room ws) (erasures_after ws e) place byte room_made.fit room_made.left low small
-
-  pub words_after_used : (place byte : ℕ) → place < places → byte < byte_values → used_words (words_after ws place byte) ≡ used_words (with_room ws) + 1
-  words_after_used place byte low small = appended_used (with_room ws) (erasures_after ws e) place byte room_made.fit room_made.left low small
-
--- A journal has a byte for each place.
-pub journal_whole : (ws : List ℕ) (e : ℕ) → Whole (journal ws e)
-journal_whole ws e = record { sized = length_bytes_of (records ws); small = bytes_small (records ws) }
-
--- A byte that is read from a fit journal.
-pub journal_read : (ws : List ℕ) (e place : ℕ) → journal_fit ws e ≡ true → place < places → Ok (byte_at (records ws) place) ≡ read (journal ws e) place
-journal_read ws e place fit low = rw (fit, lt-ltb place places low, get_or_bytes_of (records ws) place low) refl
-
--- Records laid down on blanks.
-pub laid_on_blanks : (n : ℕ) (bs : List ℕ) → paste (replicate n blank) 0 (records_of bs) places ≡ records_of bs ++ replicate (n - places) blank
-laid_on_blanks n bs =
-    paste_all (replicate n blank) 0 (records_of bs) places (sym (length_records_of bs))
-    ∙ ap (λ xs. records_of bs ++ xs) (drop-replicate places n blank)

@@ -1,5 +1,4 @@
 -- Lemmas that the proofs of the functions cite.
-pub mod Places
 pub mod Rules
 pub mod Images
 pub mod ByteLaws

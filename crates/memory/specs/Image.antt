@@ -1,6 +1,5 @@
 -- The byte image: the memory that bytes handed in and an allowance of writes make.
 use Rattle.std.specs.Prelude.{ℕ, ◌%◌, Bool, cond, ◌&&◌, List, map, length, take, nat_le}
-use Rattle.memory.specs.declared.image.Cells.{Cells}
 use Rattle.memory.specs.Sizes.{places, byte_values, most_writes}
 use Rattle.memory.specs.Model.{Mem}
 
@@ -19,7 +18,3 @@ image bytes writes = record {
   bytes = image_bytes bytes;
   life = cond (image_fit bytes writes) writes 0;
 }
-
--- The memory that an image's bytes, as they are now, and the writes left make.
-abbrev pub held : Cells → Mem
-held cells = image cells.bytes.now cells.writes

@@ -1,7 +1,6 @@
 -- The journal: the memory that 32-bit words handed in and an allowance of erasures make.
-use Rattle.std.specs.Prelude.{ℕ, ◌+◌, ◌-◌, ◌*◌, ◌/◌, ◌%◌, Bool, true, cond, ◌&&◌, ◌||◌, List, [], ◌∷◌, ◌++◌, map, length, take, drop, replicate, fold, ◌==◌, nat_le, nat_lt, slice_index, slice_set}
-use Rattle.std.specs.List.{range_with_len, prefix_len}
-use Rattle.memory.specs.declared.journal.Log.{Log}
+use Rattle.std.specs.Prelude.{ℕ, ◌+◌, ◌-◌, ◌*◌, ◌/◌, ◌%◌, Bool, cond, ◌&&◌, ◌||◌, List, ◌++◌, map, length, take, drop, replicate, fold, ◌==◌, nat_le, nat_lt, slice_index, slice_set}
+use Rattle.std.specs.List.{list_all, range_with_len, prefix_len}
 use Rattle.memory.specs.Sizes.{array_places, places, byte_values, fewest_words, most_words, most_erasures, record_limit}
 use Rattle.memory.specs.Model.{Mem}
 
@@ -44,8 +43,7 @@ records words = take (used_words words) words
 
 -- Blanks only.
 abbrev pub blanks : List ℕ → Bool
-blanks [] = true
-blanks (word ∷ words) = word == blank && blanks words
+blanks words = list_all (λ word. word == blank) words
 
 -- Records, then blanks only.
 abbrev pub is_orderly : List ℕ → Bool
@@ -90,7 +88,3 @@ erasures_after words erasures = cond (full words) (erasures - 1) erasures
 -- The words after a write: there is room, and then its record follows the others.
 abbrev pub words_after : List ℕ → ℕ → ℕ → List ℕ
 words_after words place byte = slice_set (with_room words) (used_words (with_room words)) (record_word place byte)
-
--- The memory that a journal's words, as they are now, and the erasures left make.
-abbrev pub held : Log → Mem
-held log = journal log.words.now log.erasures

@@ -5,3 +5,4 @@ pub mod Model
 pub mod Image
 pub mod Journal
 pub mod Runs
+pub mod Laws

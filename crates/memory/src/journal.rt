@@ -1,66 +1,54 @@
 //! The journal: 32-bit words handed in, and an allowance of erasures.
-ghost use Rattle.std.specs.Prelude.{◌≡◌, ◌+◌, ◌-◌, ◌<◌, ◌≤◌, true, ◌&&◌, length, is_ok, if◌then◌else◌, nat_le, slice_set};
-ghost use Rattle.memory.specs.Sizes.{places, fewest_words, most_words, most_erasures};
-ghost use Rattle.memory.specs.Model.{write, written};
-ghost use Rattle.memory.specs.Journal.{record_word, used_words, laid_down, with_room, words_after, erasures_after, held};
+ghost use Rattle.std.specs.Prelude.{◌≡◌, ◌+◌, ◌-◌, ◌<◌, ◌≤◌, true, length, slice_set};
+ghost use Rattle.memory.specs.Sizes.{places};
+ghost use Rattle.memory.specs.Model.{write};
+ghost use Rattle.memory.specs.Journal.{record_word, is_orderly, records, bytes_of, used_words, laid_down, with_room, words_after, erasures_after, journal};
+ghost use Rattle.memory.specs.Laws.{journal_whole, journal_lifeless};
 
-use crate::Memory;
-use crate::checks::{check_claim, check_place, check_write};
-use crate::refusal::Refusal;
+use crate::checked::{Checked, Keeper};
 use crate::sizes::{FEWEST_WORDS, MOST_ERASURES, MOST_WORDS, PLACES};
-use crate::words::{Record, Survey, latest_byte, lay_anew, life_of};
-
-/// Whether this many words, in order or not, and these erasures make a fit journal.
-fn makes_fit_journal(words: usize, erasures: u32, orderly: bool) -> bool
-    ensures { result ≡ (nat_le fewest_words words && (nat_le words most_words && (nat_le erasures most_erasures && orderly))) }
-{
-    words >= FEWEST_WORDS && words <= MOST_WORDS && erasures <= MOST_ERASURES && orderly
-}
+use crate::words::{Record, are_blank, count_records, factory_byte, factory_bytes, lay_down};
 
 /// The words, how many of them are used, and the erasures left.
 #[derive(Drop)]
-struct Log<'a> {
+pub struct Log<'a> {
     words: &'a mut [u32],
     used: usize,
     erasures: u32,
+    ghost counted: { used ≡ used_words words.now },
+    ghost within: { used ≤ length words.now },
 }
 
 impl Log<'_> {
+    /// The bytes at all places, gathered from the records in one walk.
+    fn gather(&self) -> [u8; PLACES]
+        ensures { result ≡ bytes_of (records self.now.words.now) }
+    {
+        let mut bytes = factory_bytes();
+        for word in &self.words[..self.used] {
+            let record = Record::of_word(*word);
+            bytes[record.place] = record.byte;
+        }
+        bytes
+    }
+
     /// Spends one erasure, and lays the bytes down anew, as they were.
     fn renew(&mut self)
-        requires counted { self.old.used ≡ used_words self.old.words.now }
         requires long { places ≤ length self.old.words.now }
         requires spare { 0 < self.old.erasures }
         ensures words { self.new.words.now ≡ laid_down self.old.words.now }
-        ensures used { self.new.used ≡ places }
         ensures erasures { self.new.erasures ≡ self.old.erasures - 1 }
     {
-        let used = self.used;
+        let bytes = self.gather();
         self.erasures -= 1;
-        lay_anew(self.words, used);
+        lay_down(self.words, &bytes);
         self.used = PLACES;
-    }
-
-    /// Puts a record after the others.
-    fn append(&mut self, next: Record)
-        requires low { next.place < places }
-        requires room { self.old.used < length self.old.words.now }
-        ensures words { self.new.words.now ≡ slice_set self.old.words.now self.old.used (record_word next.place next.byte) }
-        ensures used { self.new.used ≡ self.old.used + 1 }
-        ensures erasures { self.new.erasures ≡ self.old.erasures }
-    {
-        let used = self.used;
-        self.words[used] = next.word();
-        self.used += 1;
     }
 
     /// Makes room for a record where every word is used.
     fn make_room(&mut self)
-        requires counted { self.old.used ≡ used_words self.old.words.now }
-        requires fit { (held self.old).fit ≡ true }
-        requires alive { 0 < (held self.old).life }
+        requires { 0 < (journal self.old.words.now self.old.erasures).life }
         ensures words { self.new.words.now ≡ with_room self.old.words.now }
-        ensures used { self.new.used ≡ used_words self.new.words.now }
         ensures erasures { self.new.erasures ≡ erasures_after self.old.words.now self.old.erasures }
     {
         if self.used == self.words.len() {
@@ -68,101 +56,93 @@ impl Log<'_> {
         }
     }
 
-    /// Puts a record after the others, where need be after making room for it.
-    fn put(&mut self, next: Record)
-        requires counted { self.old.used ≡ used_words self.old.words.now }
-        requires fit { (held self.old).fit ≡ true }
-        requires alive { 0 < (held self.old).life }
-        requires low { next.place < places }
-        ensures words { self.new.words.now ≡ words_after self.old.words.now next.place next.byte }
-        ensures used { self.new.used ≡ used_words self.new.words.now }
-        ensures erasures { self.new.erasures ≡ erasures_after self.old.words.now self.old.erasures }
+    /// Puts a record after the others.
+    fn append(&mut self, next: Record)
+        requires room { self.old.used < length self.old.words.now }
+        requires tidy { is_orderly self.old.words.now ≡ true }
+        ensures words { self.new.words.now ≡ slice_set self.old.words.now self.old.used (record_word next.place next.byte) }
+        ensures erasures { self.new.erasures ≡ self.old.erasures }
     {
-        self.make_room();
-        self.append(next);
+        let used = self.used;
+        self.words[used] = u32::from(next);
+        self.used += 1;
     }
+}
+
+impl Keeper for Log<'_> {
+    // The memory is what the words and the erasures left say.
+    ghost holds = { λ s. journal s.words.now s.erasures };
+
+    // A record follows the others, and an erasure is spent if and only if every word was used.
+    ghost put_gives = { λ s place byte t. (t.words.now ≡ words_after s.words.now place byte) × (t.erasures ≡ erasures_after s.words.now s.erasures) };
+
+    fn is_fit(&self) -> bool {
+        (FEWEST_WORDS..=MOST_WORDS).contains(&self.words.len())
+            && self.erasures <= MOST_ERASURES
+            && are_blank(&self.words[self.used..])
+    }
+
+    /// The words left, and for each erasure the words that it wins.
+    fn life(&self) -> u32 {
+        let left = (self.words.len() - self.used) as u32;
+        let won = (self.words.len() - PLACES) as u32;
+        left + self.erasures * won
+    }
+
+    fn byte_at(&self, place: usize) -> u8 {
+        let used = self.used;
+        let mut byte = factory_byte(place);
+        // A rule prescribes this loop: over the words with their index, keeping the latest record of the place.
+        for (i, word) in self.words.iter().enumerate() {
+            if i == used {
+                break;
+            }
+            let record = Record::of_word(*word);
+            if record.place == place {
+                byte = record.byte;
+            }
+        }
+        byte
+    }
+
+    fn put(&mut self, place: usize, byte: u8) {
+        self.make_room();
+        self.append(Record { place, byte });
+    }
+
+    ghost whole = { λ s _. journal_whole s.words.now s.erasures };
+
+    ghost lifeless = { λ s. journal_lifeless s.words.now s.erasures };
 }
 
 /// A memory over words handed in. A write appends a record, and the last record of a place counts.
-#[derive(Drop)]
-pub struct Journal<'a> {
-    log: Log<'a>,
-    fit: bool,
-    ghost counted: { log.used ≡ used_words log.words.now },
-    ghost decided: { fit ≡ (held log).fit },
-}
+pub type Journal<'a> = Checked<Log<'a>>;
 
 impl<'a> Journal<'a> {
-    /// Puts a journal together from any words and any allowance of erasures. Whether it is fit is decided here, in one walk.
+    /// Puts a journal together from any words and any allowance of erasures. One walk over the words decides whether it is fit.
     pub fn new(words: &'a mut [u32], erasures: u32) -> Journal<'a>
-        ensures words { result.log.words.now ≡ words.old }
-        ensures erasures { result.log.erasures ≡ erasures }
+        ensures words { result.keeper.words.now ≡ words.old }
+        ensures erasures { result.keeper.erasures ≡ erasures }
     {
-        let survey = Survey::of(words);
-        let fit = makes_fit_journal(words.len(), erasures, survey.orderly);
-        let log = Log {
+        let used = count_records(words);
+        Checked::over(Log {
             words,
-            used: survey.used,
+            used,
             erasures,
-        };
-        Journal { log, fit }
-    }
-
-    /// The byte writes that the journal will still take: none where it is unfit.
-    pub fn life(&self) -> u32
-        ensures { result ≡ (held self.now.log).life }
-    {
-        if self.fit {
-            life_of(
-                self.log.words.len(),
-                self.words_used(),
-                self.erasures_left(),
-            )
-        } else {
-            0
-        }
+        })
     }
 
     /// The words that are used: the records at the front.
     pub fn words_used(&self) -> usize
-        ensures { result ≡ used_words self.now.log.words.now }
+        ensures { result ≡ used_words self.now.keeper.words.now }
     {
-        self.log.used
+        self.keeper.used
     }
 
     /// The erasures that are left.
     pub fn erasures_left(&self) -> u32
-        ensures { result ≡ self.now.log.erasures }
+        ensures { result ≡ self.now.keeper.erasures }
     {
-        self.log.erasures
-    }
-}
-
-impl<'a> Memory for Journal<'a> {
-    // The memory is what the words and the erasures left say.
-    ghost holds = { λ s. held s.log };
-
-    fn is_fit(&self) -> bool {
-        self.fit
-    }
-
-    fn read(&self, place: usize) -> Result<u8, Refusal> {
-        check_place(self.fit, place)?;
-        Ok(latest_byte(self.log.words, self.words_used(), place))
-    }
-
-    fn claim(&self, n: u32) -> Result<(), Refusal> {
-        check_claim(self.fit, self.life(), n)
-    }
-
-    fn write(&mut self, place: usize, byte: u8) -> Result<(), Refusal>
-        ensures answer { result ≡ write (held self.old.log) place }
-        ensures after { held self.new.log ≡ written (held self.old.log) place byte }
-        ensures words { self.new.log.words.now ≡ (if is_ok result then words_after self.old.log.words.now place byte else self.old.log.words.now) }
-        ensures erasures { self.new.log.erasures ≡ (if is_ok result then erasures_after self.old.log.words.now self.old.log.erasures else self.old.log.erasures) }
-    {
-        check_write(self.fit, self.life(), place)?;
-        self.log.put(Record { place, byte });
-        Ok(())
+        self.keeper.erasures
     }
 }

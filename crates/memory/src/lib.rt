@@ -4,7 +4,7 @@
 ghost use Rattle.std.specs.Prelude.{◌≡◌, true};
 ghost use Rattle.memory.specs.Model.{Mem, Whole, read, claim, write, written};
 
-mod checks;
+mod checked;
 mod image;
 mod journal;
 mod refusal;
@@ -26,8 +26,7 @@ pub trait Memory {
 
     /// Whether the memory is fit. An unfit memory refuses all else.
     fn is_fit(&self) -> bool
-        ensures answer { result ≡ (holds self.now).fit }
-        ensures whole { result ≡ true → Whole (holds self.now) };
+        ensures answer { result ≡ (holds self.now).fit };
 
     /// The byte at a place.
     fn read(&self, place: usize) -> Result<u8, Refusal>
@@ -41,4 +40,7 @@ pub trait Memory {
     fn write(&mut self, place: usize, byte: u8) -> Result<(), Refusal>
         ensures answer { result ≡ write (holds self.old) place }
         ensures after { holds self.new ≡ written (holds self.old) place byte };
+
+    // A fit memory has one byte for each place.
+    ghost whole: { (s : Self) → (holds s).fit ≡ true → Whole (holds s) };
 }

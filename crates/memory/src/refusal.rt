@@ -19,14 +19,14 @@ pub enum Refusal {
 
 impl Refusal {
     /// The number of this refusal.
+    // No From: two refusals have one number, and the life is not in it.
     pub fn number(self) -> u8
         ensures { result ≡ number self }
     {
         match self {
             Refusal::Unfit => 3,
             Refusal::Place => 4,
-            Refusal::Worn => 5,
-            Refusal::Short { life: _ } => 5,
+            Refusal::Worn | Refusal::Short { life: _ } => 5,
         }
     }
 

@@ -1,7 +1,5 @@
 //! Work over any memory: a run of bytes stored or fetched as a whole, and a list of writes.
-ghost use Rattle.std.specs.Prelude.{◌≡◌, ◌+◌, ◌^◌, ◌<◌, ◌≤◌, true, length, is_ok, if◌then◌else◌, Ok};
-ghost use Rattle.memory.specs.Model.{Whole};
-ghost use Rattle.memory.specs.Sizes.{places};
+ghost use Rattle.std.specs.Prelude.{◌≡◌, ◌+◌, length, is_ok, if◌then◌else◌, Ok};
 ghost use Rattle.memory.specs.Runs.{life_answer, fetch, run_at, store, stored, with_run, after, made};
 
 use crate::Memory;
@@ -34,10 +32,7 @@ pub fn life_left<M: Memory>(memory: &M) -> Result<u32, Refusal>
 
 /// Writes a run of bytes that the memory has room and life for.
 fn write_run<M: Memory>(memory: &mut M, place: usize, bytes: &[u8]) -> Result<(), Refusal>
-    requires fit { (M.holds memory.old).fit ≡ true }
-    requires whole { Whole (M.holds memory.old) }
-    requires room { place + length bytes.now ≤ places }
-    requires life { length bytes.now ≤ (M.holds memory.old).life }
+    requires { store (M.holds memory.old) place (length bytes.now) ≡ Ok tt }
     ensures answer { result ≡ Ok tt }
     ensures after { M.holds memory.new ≡ with_run (M.holds memory.old) place bytes.now }
 {
@@ -63,8 +58,8 @@ pub fn fetch<M: Memory>(memory: &M, place: usize, into: &mut [u8]) -> Result<(),
     ensures after { into.new ≡ (if is_ok result then run_at (M.holds memory.now) place (length into.old) else into.old) }
 {
     check_run(memory.is_fit(), place, into.len())?;
-    for i in 0..into.len() {
-        into[i] = memory.read(place + i)?;
+    for (i, byte) in into.iter_mut().enumerate() {
+        *byte = memory.read(place + i)?;
     }
     Ok(())
 }
@@ -76,14 +71,6 @@ pub struct ByteWrite {
     pub byte: u8,
 }
 
-/// The count with one write more, if it was made.
-fn one_more(count: usize, made: bool) -> usize
-    requires { count + 1 < 2 ^ 64 }
-    ensures { result ≡ count + (if made then 1 else 0) }
-{
-    if made { count + 1 } else { count }
-}
-
 /// Makes a list of writes, one after the other, passing over those that are refused. Answers how many were made.
 pub fn write_each<M: Memory>(memory: &mut M, writes: &[ByteWrite]) -> usize
     ensures count { result ≡ made (M.holds memory.old) writes.now }
@@ -93,7 +80,7 @@ pub fn write_each<M: Memory>(memory: &mut M, writes: &[ByteWrite]) -> usize
     let mut count = 0;
     for write in writes {
         let made = memory.write(write.place, write.byte).is_ok();
-        count = one_more(count, made);
+        count += usize::from(made);
     }
     count
 }

@@ -1,7 +1,4 @@
 //! How many places a memory has, and the limits of the two memories of this crate.
-ghost use Rattle.std.specs.Prelude.{◌≡◌, nat_lt};
-ghost use Rattle.memory.specs.Sizes.{places};
-
 /// The places of the array come first, from 0 on.
 pub const ARRAY_PLACES: usize = 512;
 
@@ -19,10 +16,3 @@ pub const MOST_WORDS: usize = 16_384;
 
 /// The most erasures that a journal may be allowed.
 pub const MOST_ERASURES: u32 = 100_000;
-
-/// Whether a memory has this place.
-pub(crate) fn is_place(place: usize) -> bool
-    ensures { result ≡ nat_lt place places }
-{
-    place < PLACES
-}

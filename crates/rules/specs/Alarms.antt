@@ -24,14 +24,17 @@ alarm_byte was h s k = stored was h (place_of Registers (first_of s + k))
 abbrev pub alarm : Mem → History → Section → Alarm
 alarm was h s =
     record {
-      seconds = alarm_byte was h s 0;
-      minutes = alarm_byte was h s 1;
-      hours = alarm_byte was h s 2;
-      date = alarm_byte was h s 3;
-      month = alarm_byte was h s 4;
-      year = alarm_byte was h s 5;
-      weekday = alarm_byte was h s 6;
-      century = alarm_byte was h s 7;
+      bytes =
+          record {
+            seconds = alarm_byte was h s 0;
+            minutes = alarm_byte was h s 1;
+            hours = alarm_byte was h s 2;
+            date = alarm_byte was h s 3;
+            month = alarm_byte was h s 4;
+            year = alarm_byte was h s 5;
+            weekday = alarm_byte was h s 6;
+            century = alarm_byte was h s 7;
+          };
     }
 
 -- An alarm matches at a second mark, against the date shown after it.

@@ -1,55 +1,20 @@
 -- Value lines worked one after the other.
-use Rattle.std.proofs.Common.{◌≡◌, ℕ, suc, ◌+◌, ◌*◌, ◌<◌, ◌≤◌, true, false, cond, List, [], ◌∷◌, length, Some, None, Option, sym, refl, ap, ◌∙◌, subst, ⊎_elim, add-one, arith}
-use Rattle.std.proofs.lemmas.List.{nil_from_length, append-nil}
-use Rattle.std.proofs.lemmas.Bool.{false≢true, cases_lt}
+use Rattle.std.proofs.Common.{◌≡◌, ℕ, suc, ◌+◌, ◌*◌, ◌≤◌, true, false, cond, List, [], ◌∷◌, ◌++◌, length, Some, None, Option, sym, refl, ap, ◌∙◌, subst, append_assoc, add-one, arith}
+use Rattle.std.proofs.lemmas.List.{append-nil}
+use Rattle.std.proofs.lemmas.Bool.{false≢true}
 use Rattle.memory.specs.Model.{Mem}
 use Rattle.x1226.specs.declared.state.State.{State}
+use Rattle.runlog.specs.declared.board.Board.{Board}
 use Rattle.runlog.specs.declared.calls.LineCall.{LineCall}
-use Rattle.runlog.specs.declared.reply.Row.{Row}
-use Rattle.runlog.specs.Texts.{pieces, lines}
+use Rattle.runlog.specs.declared.reply.Reply.{Reply}
+use Rattle.runlog.specs.Board.{IsLeft, lined, ran}
 use Rattle.runlog.specs.Calls.{line_call}
-use Rattle.runlog.specs.Reply.{Written, appended, row_text, Small}
-use Rattle.runlog.specs.Run.{Lined, line_asks, line_worked, Ran, after_line, lines_worked, rows_text, Smalls, Finished}
-use Rattle.runlog.specs.Lines.{FirstLine}
-use Rattle.runlog.proofs.Replies.{appended_append, appended_grows}
-use Rattle.runlog.proofs.Lengths.{readable_long, row_short}
-
--- Where a run stands: the number of the next line, the text still to come, module, memory and reply.
-pub record Stand : Type 0 where
-  pub line : ℕ
-  pub rest : List ℕ
-  pub state : State
-  pub mem : Mem
-  pub reply : Written
-
--- What the text still to come does.
-abbrev pub ahead : Stand → Ran
-ahead x = lines_worked x.line (lines x.rest) x.state x.mem
-
--- The run has come from y to x: what is ahead of x ends as what was ahead of y.
-pub record Going (x y : Stand) : Type 0 where
-  pub written : appended (rows_text (ahead x).rows) x.reply ≡ appended (rows_text (ahead y).rows) y.reply
-  pub state : (ahead x).state ≡ (ahead y).state
-  pub mem : (ahead x).mem ≡ (ahead y).mem
-  pub small : Smalls (ahead x).rows → Smalls (ahead y).rows
-  pub room : 4 * x.reply.used + 15 * length x.rest ≤ 4 * y.reply.used + 15 * length y.rest
-  pub count : x.line + length x.rest ≤ y.line + length y.rest
-
-pub going_none : (y : Stand) → Going y y
-going_none y =
-    record { written = refl; state = refl; mem = refl; small = λ h. h; room = omega arith; count = omega arith }
-
--- The line at hand, and the lines after it.
-abbrev now_worked : Stand → List ℕ → Lined
-now_worked x first = line_worked x.line first x.state x.mem
-
-abbrev then_worked : Stand → List ℕ → List ℕ → Ran
-then_worked x first rest = lines_worked (suc x.line) (lines rest) (now_worked x first).state (now_worked x first).mem
-
-split_ahead : (x : Stand) (first rest : List ℕ) → lines x.rest ≡ first ∷ lines rest
-    → ahead x ≡ after_line (now_worked x first) (then_worked x first rest)
-unfolding lines_worked
-split_ahead x first rest e = ap (λ ls. lines_worked x.line ls x.state x.mem) e
+use Rattle.runlog.specs.Lines.{bytes_of}
+use Rattle.runlog.specs.Reply.{Appends, row_text}
+use Rattle.runlog.specs.Run.{Lined, line_asks, Ran, after_line, lines_worked, rows_text}
+use Rattle.runlog.specs.Texts.{lines}
+use Rattle.runlog.proofs.Lengths.{readable_long}
+use Rattle.runlog.proofs.Replies.{appends_append}
 
 after_true : (l : Lined) (r : Ran) → l.goes_on ≡ true → after_line l r ≡ record { rows = l.row ∷ r.rows; state = r.state; mem = r.mem }
 after_true l r h =
@@ -64,76 +29,107 @@ asks_long : (n : ℕ) (o : Option LineCall) (s : State) (m : Mem) (t : List ℕ)
 asks_long n (Some c) s m t e h = readable_long t c e
 asks_long n None s m t e h = absurd (false≢true h)
 
--- What is used after a row.
-used_more : (r : Row) (w x : Written) → Small r → x ≡ appended (row_text r) w → x.used ≤ w.used + 30
-used_more r w x k e =
-    omega (arith, ap (λ (v : Written). v.used) e, (appended_grows (row_text r) w).1, row_short r k)
+module _ {M : Type 0} (holds : M → Mem) where
+  -- What the lines still to come do, from line n on.
+  abbrev pub ahead : ℕ → List ℕ → Board M → Ran
+  ahead n text b = lines_worked n (lines text) b.chip.now.state (holds b.memory.now)
 
-module _ (x y : Stand) (first rest : List ℕ) (some : 0 < length x.rest) (split : FirstLine x.rest first rest) (k : Going x y)
-    (small : Small (now_worked x first).row) (s : State) (m : Mem) (w : Written) (es : s ≡ (now_worked x first).state)
-    (em : m ≡ (now_worked x first).mem) (ew : w ≡ appended (row_text (now_worked x first).row) x.reply) where
-  -- One line that could be read.
-  next : Stand
-  next = record { line = suc x.line; rest = rest; state = s; mem = m; reply = w }
+  -- A run that has come from its start to line n: what is ahead ends as what was ahead at the start.
+  pub record Going (start now : Board M) (begun reply : Reply) (text rest : List ℕ) (n : ℕ) : Type 0 where
+    pub chip : now.chip.ghost_name ≡ start.chip.ghost_name
+    pub memory : now.memory.ghost_name ≡ start.memory.ghost_name
+    pub done : List ℕ
+    pub written : Appends begun reply done
+    pub rows : done ++ rows_text (ahead n rest now).rows ≡ rows_text (ahead 2 text start).rows
+    pub state : (ahead n rest now).state ≡ (ahead 2 text start).state
+    pub mem : (ahead n rest now).mem ≡ (ahead 2 text start).mem
+    pub room : 4 * reply.used + 15 * bytes_of (lines rest) ≤ 4 * begun.used + 15 * bytes_of (lines text)
+    pub count : n + bytes_of (lines rest) ≤ 2 + bytes_of (lines text)
 
-  next_ahead : then_worked x first rest ≡ lines_worked (suc x.line) (lines rest) s m
-  next_ahead i = lines_worked (suc x.line) (lines rest) (sym es i) (sym em i)
+  -- A run that is over.
+  pub record Gone (start after : Board M) (begun reply : Reply) (text : List ℕ) : Type 0 where
+    pub left : IsLeft holds start after (ran holds start text).state (ran holds start text).mem
+    pub written : Appends begun reply (rows_text (ran holds start text).rows)
 
-  going_next : (now_worked x first).goes_on ≡ true
-      → Going (record { line = suc x.line; rest = rest; state = s; mem = m; reply = w }) y
-  going_next goes =
-      let r = then_worked x first rest in
-      let row = (now_worked x first).row in
-      let is : ahead x ≡ record { rows = row ∷ r.rows; state = r.state; mem = r.mem } =
-      split_ahead x first rest (split.some some) ∙ after_true (now_worked x first) r goes in
-      let same : lines_worked (suc x.line) (lines rest) s m ≡ r = sym next_ahead in
-      let long : 8 ≤ length first = asks_long x.line (line_call first) x.state x.mem first refl goes in
-      let fewer : length first + length rest ≤ length x.rest =
-      ⊎_elim (λ l. omega (arith, split.parts l)) (λ l. omega (arith, split.within)) (cases_lt 0 (length rest)) in
+  -- The same by another name of the line's number.
+  going_at : (start now : Board M) (begun reply : Reply) (text rest : List ℕ) (n m : ℕ) → m ≡ n
+      → Going start now begun reply text rest n → Going start now begun reply text rest m
+  going_at start now begun reply text rest n m e k = subst (Going start now begun reply text rest) (sym e) k
+
+  -- No line is left.
+  pub going_end : (start now : Board M) (begun reply : Reply) (text rest : List ℕ) (n : ℕ) → Going start now begun reply text rest n
+      → lines rest ≡ [] → Gone start now begun reply text
+  unfolding lines_worked
+  going_end start now begun reply text rest n k none =
+      let is : ahead n rest now ≡ record { rows = []; state = now.chip.now.state; mem = holds now.memory.now } =
+      ap (λ ls. lines_worked n ls now.chip.now.state (holds now.memory.now)) none in
       record {
-        written = (λ i. appended (rows_text (same i).rows) (ew i)) ∙ sym (appended_append (row_text row) (rows_text r.rows) x.reply)
-            ∙ ap (λ (a : Ran). appended (rows_text a.rows) x.reply) (sym is) ∙ k.written;
-        state = ap (λ (a : Ran). a.state) (same ∙ sym (ap (λ (a : Ran). record { rows = r.rows; state = a.state; mem = a.mem }) is)) ∙ k.state;
-        mem = ap (λ (a : Ran). a.mem) (same ∙ sym (ap (λ (a : Ran). record { rows = r.rows; state = a.state; mem = a.mem }) is)) ∙ k.mem;
-        small = λ h. k.small (subst (λ (a : Ran). Smalls a.rows) (sym is) (small, subst (λ (a : Ran). Smalls a.rows) same h));
-        room = omega (arith, used_more row x.reply w small ew, k.room);
-        count = omega (arith, split.less some, k.count);
+        left = record {
+          state = ap (λ (a : Ran). a.state) (sym is) ∙ k.state;
+          mem = ap (λ (a : Ran). a.mem) (sym is) ∙ k.mem;
+          chip = k.chip;
+          memory = k.memory;
+        };
+        written = subst (Appends begun reply)
+            (sym (append-nil k.done) ∙ ap (λ (a : Ran). k.done ++ rows_text a.rows) (sym is) ∙ k.rows) k.written;
       }
 
-  -- In the words of the code.
-  pub going_more : (now_worked x first).goes_on ≡ true
-      → Going (record { line = x.line + 1; rest = rest; state = s; mem = m; reply = w }) y
-  going_more goes =
-      subst (λ n. Going (record { line = n; rest = rest; state = s; mem = m; reply = w }) y) (sym (add-one x.line)) (going_next goes)
+  module _ (start now after : Board M) (begun reply full : Reply) (text rest line more : List ℕ) (from n next : ℕ) (is-from : n ≡ from) (is-next : next ≡ n + 1)
+      (came : Going start now begun reply text rest from) (split : lines rest ≡ line ∷ lines more)
+      (left : IsLeft holds now after (lined holds now n line).state (lined holds now n line).mem)
+      (written : Appends reply full (row_text (lined holds now n line).row)) (short : full.used ≤ reply.used + 30) where
+    k : Going start now begun reply text rest n
+    k = going_at start now begun reply text rest from n is-from came
 
-  -- One line that could not.
-  pub going_stop : (now_worked x first).goes_on ≡ false → Finished (ahead y) y.rest y.reply w s m
-  going_stop stops =
-      let row = (now_worked x first).row in
-      let is : ahead x ≡ record { rows = row ∷ []; state = (now_worked x first).state; mem = (now_worked x first).mem } =
-      split_ahead x first rest (split.some some) ∙ after_false (now_worked x first) (then_worked x first rest) stops in
-      record {
-        state = es ∙ ap (λ (a : Ran). a.state) (sym is) ∙ k.state;
-        mem = em ∙ ap (λ (a : Ran). a.mem) (sym is) ∙ k.mem;
-        written = ew ∙ ap (λ t. appended t x.reply) (sym (append-nil (row_text row)))
-            ∙ ap (λ (a : Ran). appended (rows_text a.rows) x.reply) (sym is) ∙ k.written;
-        small = k.small (subst (λ (a : Ran). Smalls a.rows) (sym is) (small, tt));
-        room = omega (arith, used_more row x.reply w small ew, k.room);
-      }
+    -- What the line at hand does, and the lines after it.
+    abbrev worked_now : Lined
+    worked_now = lined holds now n line
 
-nothing_ahead : (x : Stand) → length x.rest ≡ 0 → ahead x ≡ record { rows = []; state = x.state; mem = x.mem }
-unfolding lines_worked pieces
-nothing_ahead x e = ap (λ t. lines_worked x.line (lines t) x.state x.mem) (nil_from_length x.rest e)
+    split_ahead : ahead n rest now ≡ after_line worked_now (lines_worked (suc n) (lines more) worked_now.state worked_now.mem)
+    unfolding lines_worked
+    split_ahead = ap (λ ls. lines_worked n ls now.chip.now.state (holds now.memory.now)) split
 
--- No line is left.
-pub going_end : (x y : Stand) → length x.rest ≡ 0 → Going x y → Finished (ahead y) y.rest y.reply x.reply x.state x.mem
-unfolding appended
-going_end x y e k =
-    let is = nothing_ahead x e in
-    record {
-      state = ap (λ (a : Ran). a.state) (sym is) ∙ k.state;
-      mem = ap (λ (a : Ran). a.mem) (sym is) ∙ k.mem;
-      written = ap (λ (a : Ran). appended (rows_text a.rows) x.reply) (sym is) ∙ k.written;
-      small = k.small (subst (λ (a : Ran). Smalls a.rows) (sym is) tt);
-      room = omega (arith, k.room);
-    }
+    same : lines_worked (suc n) (lines more) worked_now.state worked_now.mem ≡ ahead (suc n) more after
+    same i = lines_worked (suc n) (lines more) (sym left.state i) (sym left.mem i)
+
+    -- A line that could be read.
+    going_suc : worked_now.goes_on ≡ true → Going start after begun full text more (suc n)
+    going_suc goes =
+        let r : Ran = ahead (suc n) more after in
+        let row = row_text worked_now.row in
+        let is : ahead n rest now ≡ record { rows = worked_now.row ∷ r.rows; state = r.state; mem = r.mem } =
+        split_ahead ∙ ap (after_line worked_now) same ∙ after_true worked_now r goes in
+        let long : 8 ≤ length line = asks_long n (line_call line) now.chip.now.state (holds now.memory.now) line refl goes in
+        let bytes : bytes_of (lines rest) ≡ length line + 1 + bytes_of (lines more) = ap bytes_of split in
+        record {
+          chip = left.chip ∙ k.chip;
+          memory = left.memory ∙ k.memory;
+          done = k.done ++ row;
+          written = appends_append begun reply full k.done row k.written written;
+          rows = append_assoc k.done row (rows_text r.rows) ∙ ap (λ (a : Ran). k.done ++ rows_text a.rows) (sym is) ∙ k.rows;
+          state = ap (λ (a : Ran). a.state) (sym is) ∙ k.state;
+          mem = ap (λ (a : Ran). a.mem) (sym is) ∙ k.mem;
+          room = omega (arith, k.room);
+          count = omega (arith, k.count);
+        }
+
+    pub going_more : true ≡ worked_now.goes_on → Going start after begun full text more next
+    going_more goes = going_at start after begun full text more (suc n) next (is-next ∙ add-one n) (going_suc (sym goes))
+
+    -- A line that could not.
+    pub going_stop : false ≡ worked_now.goes_on → Gone start after begun full text
+    going_stop stops =
+        let row = row_text worked_now.row in
+        let is : ahead n rest now ≡ record { rows = worked_now.row ∷ []; state = worked_now.state; mem = worked_now.mem } =
+        split_ahead ∙ after_false worked_now (lines_worked (suc n) (lines more) worked_now.state worked_now.mem) (sym stops) in
+        record {
+          left = record {
+            state = left.state ∙ ap (λ (a : Ran). a.state) (sym is) ∙ k.state;
+            mem = left.mem ∙ ap (λ (a : Ran). a.mem) (sym is) ∙ k.mem;
+            chip = left.chip ∙ k.chip;
+            memory = left.memory ∙ k.memory;
+          };
+          written = subst (Appends begun full)
+              (ap (λ t. k.done ++ t) (sym (append-nil row)) ∙ ap (λ (a : Ran). k.done ++ rows_text a.rows) (sym is) ∙ k.rows)
+              (appends_append begun reply full k.done row k.written written);
+        }

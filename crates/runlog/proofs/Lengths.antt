@@ -1,37 +1,31 @@
--- How long a line that can be read is at least, and a row at most.
-use Rattle.std.proofs.Common.{◌≡◌, ℕ, suc, ◌+◌, ◌<◌, ◌≤◌, Bool, true, false, cond, ◌&&◌, eqb, ltb, leb, List, [], ◌∷◌, ◌++◌, length, is_some, Some, None, codes, decimal, Option, sym, refl, ◌∙◌, subst, arith, lit<, length-append}
+-- How long a line that can be read is at least, and the bytes of the lines of a text.
+use Rattle.std.proofs.Common.{◌≡◌, ℕ, suc, ◌+◌, ◌<◌, ◌≤◌, Bool, true, false, cond, ◌&&◌, eqb, ltb, leb, List, [], ◌∷◌, length, is_some, Some, None, codes, Option, sym, refl, ◌∙◌, subst, arith}
 use Rattle.std.specs.Str.{bytes_eq, all_ascii_digits}
-use Rattle.std.proofs.lemmas.Fmt.{length-decimal-le}
 use Rattle.std.proofs.lemmas.Slice.Eq.{bytes_eq-Decides}
 use Rattle.std.proofs.lemmas.Bool.{false≢true, and_parts, ltb-true}
 use Rattle.runlog.specs.declared.calls.Name.{Name}
 use Rattle.runlog.specs.declared.calls.LineCall.{LineCall}
-use Rattle.runlog.specs.declared.reply.Row.{Row}
-use Rattle.runlog.specs.Texts.{space, lf, in_front, pieces, words}
+use Rattle.runlog.specs.Texts.{space, in_front, pieces, words}
 use Rattle.runlog.specs.Numbers.{value, number, largest, most_digits}
 use Rattle.runlog.specs.Calls.{name_of, call_of, call_in, line_call}
-use Rattle.runlog.specs.Reply.{field, row_text, Small}
+use Rattle.runlog.specs.Lines.{bytes_of}
 use Rattle.runlog.proofs.Texts.{some, some_words}
 
--- The bytes of words with one more for each.
-abbrev total : List (List ℕ) → ℕ
-total [] = 0
-total (p ∷ ps) = length p + 1 + total ps
-
-front_total : (x : ℕ) (ps : List (List ℕ)) → some ps ≡ true → total (in_front x ps) ≡ total ps + 1
+-- Each byte of a line counts, and each word one more.
+front_total : (x : ℕ) (ps : List (List ℕ)) → some ps ≡ true → bytes_of (in_front x ps) ≡ bytes_of ps + 1
 front_total x [] h = absurd (false≢true h)
 front_total x (p ∷ ps) h = omega arith
 
-either_total : (b : Bool) (x : ℕ) (ps : List (List ℕ)) → some ps ≡ true → total (cond b ([] ∷ ps) (in_front x ps)) ≡ total ps + 1
+either_total : (b : Bool) (x : ℕ) (ps : List (List ℕ)) → some ps ≡ true → bytes_of (cond b ([] ∷ ps) (in_front x ps)) ≡ bytes_of ps + 1
 either_total true x ps h = omega arith
 either_total false x ps h = front_total x ps h
 
-words_total : (t : List ℕ) → total (words t) ≡ length t + 1
+words_total : (t : List ℕ) → bytes_of (words t) ≡ length t + 1
 unfolding pieces
 words_total [] = refl
 words_total (x ∷ xs) =
-    let k : total (words xs) ≡ length xs + 1 = words_total xs in
-    let e : total (words xs) + 1 ≡ suc (length xs) + 1 = omega arith in
+    let k : bytes_of (words xs) ≡ length xs + 1 = words_total xs in
+    let e : bytes_of (words xs) + 1 ≡ suc (length xs) + 1 = omega arith in
     either_total (eqb x space) x (words xs) (some_words xs) ∙ e
 
 -- A word that is one of the names.
@@ -69,7 +63,7 @@ call_parts (Some n) (Some x) (Some y) c e = (refl, refl, refl)
 none_called : (c : LineCall) (n : ℕ) → ◌≡◌ {A = Option LineCall} None (Some c) → 9 ≤ n
 none_called c n e = let z : ◌≡◌ {A = ℕ} 0 1 = cc in absurd (omega arith)
 
-call_long : (ps : List (List ℕ)) (c : LineCall) → call_in ps ≡ Some c → 9 ≤ total ps
+call_long : (ps : List (List ℕ)) (c : LineCall) → call_in ps ≡ Some c → 9 ≤ bytes_of ps
 call_long [] c e = none_called c _ e
 call_long (name ∷ []) c e = none_called c _ e
 call_long (name ∷ one ∷ []) c e = none_called c _ e
@@ -81,31 +75,3 @@ call_long (name ∷ one ∷ two ∷ more ∷ rest) c e = none_called c _ e
 -- A line that can be read has eight bytes or more.
 pub readable_long : (t : List ℕ) (c : LineCall) → line_call t ≡ Some c → 8 ≤ length t
 readable_long t c e = omega (arith, call_long (words t) c e, words_total t)
-
--- A number takes five digits at most.
-digits_short : (n : ℕ) → n ≤ largest → length (decimal n) ≤ 5
-digits_short n h = length-decimal-le 5 n (lit< tt) (omega arith) (omega arith)
-
-field_short : (n end : ℕ) → n ≤ largest → length (field n end) ≤ 6
-field_short n end h = omega (arith, digits_short n h, length-append (decimal n) (end ∷ []))
-
--- A row takes 30 bytes at most.
-pub row_short : (r : Row) → Small r → length (row_text r) ≤ 30
-row_short r k =
-    let a = field r.line space in
-    let b = field r.sda space in
-    let c = field r.fault space in
-    let d = field r.area space in
-    let e = field r.address lf in
-    omega (
-      arith,
-      length-append a (b ++ (c ++ (d ++ e))),
-      length-append b (c ++ (d ++ e)),
-      length-append c (d ++ e),
-      length-append d e,
-      field_short r.line space k.line,
-      field_short r.sda space k.sda,
-      field_short r.fault space k.fault,
-      field_short r.area space k.area,
-      field_short r.address lf k.address,
-    )

@@ -1,9 +1,9 @@
 -- Lemmas on texts, numbers, rows and runs.
 pub mod Texts
 pub mod Numerals
-pub mod Working
 pub mod Replies
-pub mod Splitting
+pub mod Working
 pub mod Lengths
 pub mod Going
+pub mod Naming
 pub mod Logging

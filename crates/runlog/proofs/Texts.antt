@@ -1,10 +1,13 @@
 -- Pieces of a text.
-use Rattle.std.proofs.Common.{◌≡◌, ℕ, ◌+◌, ◌-◌, ◌<◌, Bool, true, false, cond, ◌&&◌, eqb, List, [], ◌∷◌, ◌++◌, length, get_or, take, drop, Some, None, Option, sym, refl, ap, ◌∙◌, subst, ⊎_elim, arith}
-use Rattle.std.proofs.lemmas.List.{take_more, take_rest, drop_more, take-append-drop}
+use Rattle.std.proofs.Common.{◌≡◌, ℕ, zero, suc, ◌+◌, ◌-◌, ◌<◌, ◌≤◌, Bool, true, false, cond, ◌&&◌, eqb, List, [], ◌∷◌, ◌++◌, length, get_or, take, drop, Some, None, Option, sym, refl, ap, ◌∙◌, subst, ⊎_elim, add-one, arith}
+use Rattle.std.proofs.lemmas.List.{take_more, take_all, take_rest, drop_more, take-append-drop, nil_from_length}
 use Rattle.std.proofs.lemmas.Bool.{false≢true, eq-eqb, eqb-true, cases_Bool, cond-false, and_right}
+use Rattle.std.specs.Borrow.{Bor}
+use Rattle.std.specs.List.{AllWithin}
+use Rattle.std.specs.Option.{unwrap_or}
 use Rattle.std.specs.Char.{is_ascii_digit}
 use Rattle.std.specs.Str.{all_ascii_digits}
-use Rattle.runlog.specs.Texts.{space, lacks, in_front, pieces, words}
+use Rattle.runlog.specs.Texts.{space, lf, lacks, in_front, pieces, lines, words, Cut}
 use Rattle.runlog.specs.declared.calls.Name.{Name}
 use Rattle.runlog.specs.Numbers.{number}
 use Rattle.runlog.specs.Calls.{name_of, call_of, call_in, line_call}
@@ -21,23 +24,28 @@ lacks_push at [] x p q = rw q
 lacks_push at (y ∷ ys) x p q = and_then (eqb y at) (lacks at ys) (lacks at (ys ++ x ∷ [])) (λ h. lacks_push at ys x h q) p
 
 -- The loop's step: the byte at i is another.
-pub lacks_more : (at : ℕ) (xs : List ℕ) (i : ℕ) → i < length xs → lacks at (take i xs) ≡ true → eqb (get_or xs i 0) at ≡ false
+lacks_more : (at : ℕ) (xs : List ℕ) (i : ℕ) → i < length xs → lacks at (take i xs) ≡ true → eqb (get_or xs i 0) at ≡ false
     → lacks at (take (i + 1) xs) ≡ true
 lacks_more at xs i l p q = rw (take_more xs i 0 l) (lacks_push at (take i xs) (get_or xs i 0) p q)
 
+-- No byte of the first i is the one.
+pub lacks_within : (at : ℕ) (xs : List ℕ) (i : ℕ) → i ≤ length xs → AllWithin (λ y. eqb y at ≡ false) xs 0 i → lacks at (take i xs) ≡ true
+lacks_within at xs zero l h = refl
+lacks_within at xs (suc i) l h =
+    rw (← add-one)
+    (lacks_more at xs i (omega arith) (lacks_within at xs i (omega arith) (λ k d a b. h k d a (omega arith)))
+    (h i 0 (omega arith) (omega arith)))
+
+pub lacks_all : (at : ℕ) (xs : List ℕ) → AllWithin (λ y. eqb y at ≡ false) xs 0 (length xs) → lacks at xs ≡ true
+lacks_all at xs h =
+    subst (λ t. lacks at t ≡ true) (take_all (length xs) xs (omega arith)) (lacks_within at xs (length xs) (omega arith) h)
+
 -- A text cut at place i, in the words of two parts of a slice.
 pub cut_at : (at : ℕ) (xs : List ℕ) (i : ℕ) → i < length xs → get_or xs i 0 ≡ at
-    → xs ≡ take (i - 0) xs ++ at ∷ take (length xs - (i + 1)) (drop (i + 1) xs)
+    → xs ≡ take i xs ++ at ∷ take (length xs - (i + 1)) (drop (i + 1) xs)
 cut_at at xs i l e =
-    let whole : xs ≡ take i xs ++ at ∷ drop (i + 1) xs =
-    sym (take-append-drop i xs) ∙ ap (λ t. take i xs ++ t) (drop_more xs i 0 l ∙ ap (λ b. b ∷ drop (i + 1) xs) e) in
-    let none : i ≡ i - 0 = omega arith in
-    subst (λ n. xs ≡ take n xs ++ at ∷ take (length xs - (i + 1)) (drop (i + 1) xs)) none
-    (subst (λ t. xs ≡ take i xs ++ at ∷ t) (sym (take_rest xs (i + 1))) whole)
-
--- What is taken from the first byte on.
-pub from_first : (P : List ℕ → Type 0) (xs : List ℕ) (i : ℕ) → P (take i xs) → P (take (i - 0) xs)
-from_first P xs i p = let none : i ≡ i - 0 = omega arith in subst (λ n. P (take n xs)) none p
+    subst (λ t. xs ≡ take i xs ++ at ∷ t) (sym (take_rest xs (i + 1)))
+    (sym (take-append-drop i xs) ∙ ap (λ t. take i xs ++ t) (drop_more xs i 0 l ∙ ap (λ b. b ∷ drop (i + 1) xs) e))
 
 -- The first byte is another, and the rest lacks it.
 lacks_parts : (b r : Bool) → cond b false r ≡ true → (b ≡ false) × (r ≡ true)
@@ -71,6 +79,18 @@ line_alone at (x ∷ y ∷ ys) l h =
     let k = lacks_parts (eqb x at) (lacks at (y ∷ ys)) h in
     let other : eqb x at ≡ false = k.0 in
     rw other (ap (in_front x) (line_alone at (y ∷ ys) (omega arith) k.1))
+
+-- An empty text has no line.
+pub no_line : (t : List ℕ) → 0 ≡ length t → lines t ≡ []
+unfolding pieces
+no_line t e = ap lines (nil_from_length t (sym e))
+
+-- The first line of a text that is cut at its first LF, or is one line whole.
+pub first_line : (t e : Bor (List ℕ)) (r : Option (Bor (List ℕ) × Bor (List ℕ))) → 0 < length t.now → e.now ≡ [] → Cut lf t.now r
+    → lines t.now ≡ (unwrap_or r (t, e)).0.now ∷ lines (unwrap_or r (t, e)).1.now
+unfolding pieces
+first_line t e None l none k = line_alone lf t.now l k ∙ ap (λ ls. t.now ∷ ls) (sym (ap lines none))
+first_line t e (Some p) l none k = ap lines k.0 ∙ pieces_cut lf [] p.0.now p.1.now k.1
 
 -- There are two pieces, or more.
 abbrev many : List (List ℕ) → Bool
@@ -153,15 +173,15 @@ pub no_words : (t : List ℕ) → lacks space t ≡ true → line_call t ≡ Non
 no_words t h = ap call_in (word_alone space t h)
 
 -- A line with one space.
-pub one_word : (t name rest : List ℕ) → t ≡ name ++ space ∷ rest → lacks space name ≡ true → lacks space rest ≡ true → line_call t ≡ None
-one_word t name rest e p q =
-    ap call_in (ap words e ∙ pieces_cut space ([] ∷ []) name rest p ∙ ap (λ ps. name ∷ ps) (word_alone space rest q))
+pub one_word : (t name rest : List ℕ) → (t ≡ name ++ space ∷ rest) × (lacks space name ≡ true) → lacks space rest ≡ true → line_call t ≡ None
+one_word t name rest e q =
+    ap call_in (ap words e.0 ∙ pieces_cut space ([] ∷ []) name rest e.1 ∙ ap (λ ps. name ∷ ps) (word_alone space rest q))
 
 -- A line with two spaces at least.
-pub three_words : (t name rest one two : List ℕ) → t ≡ name ++ space ∷ rest → lacks space name ≡ true → rest ≡ one ++ space ∷ two
-    → lacks space one ≡ true → line_call t ≡ call_of (name_of name) (number one) (number two)
-three_words t name rest one two e p f q =
+pub three_words : (t name rest one two : List ℕ) → (t ≡ name ++ space ∷ rest) × (lacks space name ≡ true)
+    → (rest ≡ one ++ space ∷ two) × (lacks space one ≡ true) → line_call t ≡ call_of (name_of name) (number one) (number two)
+three_words t name rest one two e f =
     ap call_in
-    (ap words e ∙ pieces_cut space ([] ∷ []) name rest p
-    ∙ ap (λ ps. name ∷ ps) (ap words f ∙ pieces_cut space ([] ∷ []) one two q))
+    (ap words e.0 ∙ pieces_cut space ([] ∷ []) name rest e.1
+    ∙ ap (λ ps. name ∷ ps) (ap words f.0 ∙ pieces_cut space ([] ∷ []) one two f.1))
     ∙ last_word name one two

@@ -1,45 +1,37 @@
--- Calls that are worked one after the other.
-use Rattle.std.proofs.Common.{◌≡◌, ℕ, ◌+◌, Bool, not, [], ◌∷◌, replicate, None, sym, refl, ap, ◌∙◌, subst, add-one}
+-- A call that is made again and again on a board.
+use Rattle.std.proofs.Common.{◌≡◌, ℕ, ◌+◌, replicate, None, sym, refl, ◌∙◌, subst, add-one}
 use Rattle.memory.specs.Model.{Mem}
 use Rattle.chip.specs.declared.calls.Answer.{Answer}
 use Rattle.chip.specs.declared.calls.Call.{Call}
-use Rattle.chip.specs.declared.calls.Call.TheVariants.{Tick}
-use Rattle.x1226.specs.declared.state.State.{State}
-use Rattle.x1226.specs.Frame.{pulls}
 use Rattle.x1226.specs.Step.{worked, told}
-use Rattle.runlog.specs.declared.calls.LineCall.{LineCall}
-use Rattle.runlog.specs.Calls.{calls_of}
+use Rattle.runlog.specs.declared.board.Board.{Board}
+use Rattle.runlog.specs.Board.{told_of, called, IsLeft}
 use Rattle.runlog.specs.Left.{left_from}
 
--- Module, memory and answer are those after so many ticks.
-pub record Ticked (s : State) (m : Mem) (n : ℕ) (t : State) (o : Mem) (answer : Answer) : Type 0 where
-  pub state : t ≡ (left_from s m (replicate n Tick)).state
-  pub mem : o ≡ (left_from s m (replicate n Tick)).mem
-  pub told_is : answer ≡ told (left_from s m (replicate n Tick))
+-- A board and its answer after n such calls.
+pub record Made {M : Type 0} (holds : M → Mem) (before after : Board M) (c : Call) (n : ℕ) (answer : Answer) : Type 0 where
+  pub left : IsLeft holds before after (called holds before (replicate n c)).state (called holds before (replicate n c)).mem
+  pub told_is : answer ≡ told (called holds before (replicate n c))
 
--- No tick yet.
-pub ticked_none : (s : State) (m : Mem) (b : Bool) → b ≡ pulls s.phase → Ticked s m 0 s m (record { sda = not b; refusal = None })
+-- No call yet.
+pub made_none : {M : Type 0} (holds : M → Mem) (b : Board M) (c : Call) (answer : Answer) → answer ≡ told_of b None → Made holds b b c 0 answer
 unfolding left_from
-ticked_none s m b e =
-    record { state = refl; mem = refl; told_is = λ i. record { sda = not (e i); refusal = None } }
+made_none holds b c answer e = record { left = record { state = refl; mem = refl; chip = refl; memory = refl }; told_is = e }
 
--- One tick more.
-pub ticked_more : (s : State) (m : Mem) (n : ℕ) (t u : State) (o p : Mem) (before after : Answer) → Ticked s m n t o before
-    → u ≡ (worked Tick t o).state → p ≡ (worked Tick t o).mem → after ≡ told (worked Tick t o) → Ticked s m (n + 1) u p after
+-- One call more.
+pub made_more : {M : Type 0} (holds : M → Mem) (before now after : Board M) (c : Call) (n : ℕ) (old answer : Answer)
+    → Made holds before now c n old
+    → IsLeft holds now after (worked c now.chip.now.state (holds now.memory.now)).state (worked c now.chip.now.state (holds now.memory.now)).mem
+    → answer ≡ told (worked c now.chip.now.state (holds now.memory.now)) → Made holds before after c (n + 1) answer
 unfolding left_from
-ticked_more s m n t u o p before after k es em ea =
-    subst (λ j. Ticked s m j u p after) (sym (add-one n))
+made_more holds before now after c n old answer k w e =
+    subst (λ j. Made holds before after c j answer) (sym (add-one n))
     (record {
-      state = es ∙ (λ i. (worked Tick (k.state i) (k.mem i)).state);
-      mem = em ∙ (λ i. (worked Tick (k.state i) (k.mem i)).mem);
-      told_is = ea ∙ (λ i. told (worked Tick (k.state i) (k.mem i)));
+      left = record {
+        state = w.state ∙ (λ i. (worked c (k.left.state i) (k.left.mem i)).state);
+        mem = w.mem ∙ (λ i. (worked c (k.left.state i) (k.left.mem i)).mem);
+        chip = w.chip ∙ k.left.chip;
+        memory = w.memory ∙ k.left.memory;
+      };
+      told_is = e ∙ (λ i. told (worked c (k.left.state i) (k.left.mem i)));
     })
-
--- One call is worked as it is by itself.
-left_one : (s : State) (m : Mem) (c : Call) → left_from s m (c ∷ []) ≡ worked c s m
-unfolding left_from
-left_one s m c = refl
-
--- A line of one call.
-pub one_left : (s : State) (m : Mem) (x : LineCall) (c : Call) → calls_of x ≡ c ∷ [] → left_from s m (calls_of x) ≡ worked c s m
-one_left s m x c e = ap (left_from s m) e ∙ left_one s m c

@@ -2,11 +2,10 @@
 use Rattle.std.specs.Prelude.{ℕ, cond, List, [], ◌∷◌, replicate, Some, None, codes, Option, ◌==◌}
 use Rattle.std.specs.Str.{bytes_eq}
 use Rattle.chip.specs.declared.calls.Call.{Call}
-use Rattle.chip.specs.declared.calls.Call.TheVariants.{Level as LevelCall, Tick as TickCall, Supply as SupplyCall}
+use Rattle.chip.specs.declared.calls.Call.TheVariants.{Level, Tick, Supply}
 use Rattle.runlog.specs.declared.calls.Name.{Name}
 use Rattle.runlog.specs.declared.calls.Name.TheVariants.{Level as LevelName, Tick as TickName, Supply as SupplyName}
 use Rattle.runlog.specs.declared.calls.LineCall.{LineCall}
-use Rattle.runlog.specs.declared.calls.LineCall.TheVariants.{Level, Ticks, Supply}
 use Rattle.runlog.specs.Texts.{words}
 use Rattle.runlog.specs.Numbers.{number}
 
@@ -18,9 +17,9 @@ name_of word =
 
 -- After tick and supply the second number is 0.
 abbrev pub asked : Name → ℕ → ℕ → Option LineCall
-asked LevelName one two = Some (Level one two)
-asked TickName one two = cond (two == 0) (Some (Ticks one)) None
-asked SupplyName one two = cond (two == 0) (Some (Supply one)) None
+asked LevelName one two = Some (record { call = Level one two; times = 1 })
+asked TickName one two = cond (two == 0) (Some (record { call = Tick; times = one })) None
+asked SupplyName one two = cond (two == 0) (Some (record { call = Supply one; times = 1 })) None
 
 -- A name and two numbers, each of which can be read.
 abbrev pub call_of : Option Name → Option ℕ → Option ℕ → Option LineCall
@@ -42,6 +41,4 @@ line_call text = call_in (words text)
 
 -- The calls that a line makes, one after the other.
 abbrev pub calls_of : LineCall → List Call
-calls_of (Level scl sda) = LevelCall scl sda ∷ []
-calls_of (Ticks count) = replicate count TickCall
-calls_of (Supply which) = SupplyCall which ∷ []
+calls_of line = replicate line.times line.call

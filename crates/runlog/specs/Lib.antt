@@ -6,3 +6,4 @@ pub mod Left
 pub mod Reply
 pub mod Run
 pub mod Lines
+pub mod Board

@@ -1,13 +1,12 @@
 -- The reply: its rows, their text, and the room that it is written to.
-use Rattle.std.specs.Prelude.{ℕ, ◌+◌, ◌≤◌, Bool, cond, List, [], ◌∷◌, ◌++◌, length, Some, None, decimal, Option, nat_lt, slice_set}
-use Rattle.std.specs.Borrow.{GName}
+use Rattle.std.specs.Prelude.{◌≡◌, ℕ, ◌+◌, ◌-◌, Bool, cond, List, [], ◌∷◌, ◌++◌, length, Some, None, decimal, Option}
+use Rattle.std.specs.List.{replace_range}
 use Rattle.chip.specs.Refusals.{report, area_number}
 use Rattle.chip.specs.declared.calls.Answer.{Answer}
 use Rattle.chip.specs.declared.refusals.Refusal.{Refusal}
 use Rattle.runlog.specs.declared.reply.Reply.{Reply}
 use Rattle.runlog.specs.declared.reply.Row.{Row}
 use Rattle.runlog.specs.Texts.{space, lf}
-use Rattle.runlog.specs.Numbers.{largest}
 
 -- The level on SDA as a number.
 abbrev pub level_number : Bool → ℕ
@@ -33,33 +32,23 @@ row_text r =
     field r.line space
     ++ (field r.sda space ++ (field r.fault space ++ (field r.area space ++ field r.address lf)))
 
--- The numbers of a row are such as the log's grammar has.
-pub record Small (r : Row) : Type 0 where
-  pub line : r.line ≤ largest
-  pub sda : r.sda ≤ largest
-  pub fault : r.fault ≤ largest
-  pub area : r.area ≤ largest
-  pub address : r.address ≤ largest
+-- The most bytes of a field, five digits and the byte that ends it, and of a row.
+abbrev pub most_field : ℕ
+most_field = 6
 
--- Bytes lent for a reply, how many of them are written, and the name of the loan, which no write changes.
-pub record Written : Type 0 where
-  pub bytes : List ℕ
-  pub used : ℕ
-  pub loan : GName
+abbrev pub most_row : ℕ
+most_row = 30
 
-abbrev pub view : Reply → Written
-view r = record { bytes = r.room.now; used = r.used; loan = r.room.ghost_name }
+-- Room that is enough for the rows of any log.
+abbrev pub rows_room : ℕ
+rows_room = 32000
 
--- One byte written at the end.
-abbrev pub with_byte : ℕ → Written → Written
-with_byte b w = record { bytes = slice_set w.bytes w.used b; used = w.used + 1; loan = w.loan }
+-- The bytes of the room that are not written yet.
+abbrev pub room_left : Reply → ℕ
+room_left r = length r.room.now - r.used
 
--- One byte more, while there is room.
-abbrev pub pushed : ℕ → Written → Written
-pushed b w =
-    cond (nat_lt w.used (length w.bytes)) (with_byte b w) w
-
--- The bytes of a text, one after the other.
-unfoldable pub appended : List ℕ → Written → Written
-appended [] w = w
-appended (b ∷ bs) w = appended bs (pushed b w)
+-- The bytes of a text stand after those written before; the other bytes of the room are as they were, and it is the room that was lent.
+pub record Appends (before after : Reply) (text : List ℕ) : Type 0 where
+  pub bytes : after.room.now ≡ replace_range before.room.now before.used (before.used + length text) text
+  pub used : after.used ≡ before.used + length text
+  pub loan : after.room.ghost_name ≡ before.room.ghost_name

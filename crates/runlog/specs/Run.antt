@@ -1,5 +1,5 @@
 -- A log that is worked on a module: what each line does, and what is left of module, memory and reply.
-use Rattle.std.specs.Prelude.{◌≡◌, ℕ, suc, ◌+◌, ◌*◌, ◌≤◌, Bool, true, false, cond, not, ◌||◌, List, [], ◌∷◌, ◌++◌, length, drop, Some, None, Ok, Err, codes, Option, Result, nat_lt}
+use Rattle.std.specs.Prelude.{ℕ, suc, Bool, true, false, cond, not, ◌||◌, List, [], ◌∷◌, ◌++◌, length, drop, Some, None, Ok, Err, codes, Option, Result, nat_lt}
 use Rattle.std.specs.Str.{bytes_eq}
 use Rattle.memory.specs.Model.{Mem}
 use Rattle.chip.specs.declared.refusals.Refusal.{Refusal}
@@ -13,7 +13,7 @@ use Rattle.runlog.specs.declared.reply.Row.{Row}
 use Rattle.runlog.specs.Texts.{lf, lines}
 use Rattle.runlog.specs.Calls.{line_call, calls_of}
 use Rattle.runlog.specs.Left.{left_from}
-use Rattle.runlog.specs.Reply.{Written, appended, row_of, row_text, Small}
+use Rattle.runlog.specs.Reply.{row_of, row_text}
 
 -- The longest log, and the least room for its reply.
 abbrev pub most_log : ℕ
@@ -130,17 +130,3 @@ run_log s m log room =
     (cond (nat_lt most_log (length log) || nat_lt (length room) least_reply) (unlogged LogSize s m room)
     (replied (log_worked log s m) room))
     (unlogged Unfit s m room)
-
--- The numbers of every row are such as the log's grammar has.
-abbrev pub Smalls : List Row → Type 0
-Smalls [] = Unit {0}
-Smalls (r ∷ rs) = Small r × Smalls rs
-
--- Value lines that are all worked, or up to an unreadable one: module and memory are left so, the rows are written after what was
--- written before, and they took little room: 30 bytes at most for a row, and no row but the last for less than eight bytes of text.
-pub record Finished (ran : Ran) (text : List ℕ) (before after : Written) (s : State) (m : Mem) : Type 0 where
-  pub state : s ≡ ran.state
-  pub mem : m ≡ ran.mem
-  pub written : after ≡ appended (rows_text ran.rows) before
-  pub small : Smalls ran.rows
-  pub room : 4 * after.used ≤ 4 * before.used + (15 * length text + 105)

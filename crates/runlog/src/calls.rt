@@ -1,31 +1,24 @@
-// The calls of a log: what a value line asks for, and how it is worked on a module.
-ghost use Rattle.std.specs.Prelude.{◌≡◌, replicate};
-ghost use Rattle.runlog.specs.Calls.{name_of, asked, call_of, line_call};
-ghost use Rattle.runlog.specs.Calls.{calls_of};
-ghost use Rattle.runlog.specs.Left.{left_from};
-ghost use Rattle.chip.specs.declared.calls.Call.TheVariants.{Tick};
-ghost use Rattle.x1226.specs.Step.{told};
+// The calls of a log: what a value line asks for.
+ghost use Rattle.std.specs.Prelude.{◌≡◌};
+ghost use Rattle.runlog.specs.Calls.{name_of, asked, line_call};
 
-use crate::lines::{SPACE, cut, is_text};
+use crate::lines::{SPACE, cut};
 use crate::numbers::number;
-use chip::calls::{Answer, Call};
-use memory::Memory;
-use x1226::Module;
+use chip::calls::Call;
 
 // The name that a value line begins with.
-#[derive(Clone, Copy)]
+#[derive(Clone, Copy, PartialEq, Eq, Debug)]
 pub enum Name {
     Level,
     Tick,
     Supply,
 }
 
-// What a value line asks for.
-#[derive(Clone, Copy)]
-pub enum LineCall {
-    Level { scl: u16, sda: u16 },
-    Ticks { count: u16 },
-    Supply { which: u16 },
+// What a value line asks for: a call, and how often it is made.
+#[derive(Clone, Copy, PartialEq, Eq, Debug)]
+pub struct LineCall {
+    pub call: Call,
+    pub times: u16,
 }
 
 impl Name {
@@ -33,14 +26,11 @@ impl Name {
     fn of(word: &[u8]) -> Option<Name>
         ensures { result ≡ name_of word.now }
     {
-        if is_text(word, b"level") {
-            Some(Name::Level)
-        } else if is_text(word, b"tick") {
-            Some(Name::Tick)
-        } else if is_text(word, b"supply") {
-            Some(Name::Supply)
-        } else {
-            None
+        match word {
+            b"level" => Some(Name::Level),
+            b"tick" => Some(Name::Tick),
+            b"supply" => Some(Name::Supply),
+            _ => None,
         }
     }
 }
@@ -51,20 +41,19 @@ impl LineCall {
         ensures { result ≡ asked name one two }
     {
         match name {
-            Name::Level => Some(LineCall::Level { scl: one, sda: two }),
-            Name::Tick if two == 0 => Some(LineCall::Ticks { count: one }),
-            Name::Supply if two == 0 => Some(LineCall::Supply { which: one }),
+            Name::Level => Some(LineCall {
+                call: Call::Level { scl: one, sda: two },
+                times: 1,
+            }),
+            Name::Tick if two == 0 => Some(LineCall {
+                call: Call::Tick,
+                times: one,
+            }),
+            Name::Supply if two == 0 => Some(LineCall {
+                call: Call::Supply { which: one },
+                times: 1,
+            }),
             Name::Tick | Name::Supply => None,
-        }
-    }
-
-    // What a name with two numbers asks for, where each of the three could be read.
-    fn of_words(name: Option<Name>, one: Option<u16>, two: Option<u16>) -> Option<LineCall>
-        ensures { result ≡ call_of name one two }
-    {
-        match (name, one, two) {
-            (Some(name), Some(one), Some(two)) => LineCall::of(name, one, two),
-            _ => None,
         }
     }
 
@@ -74,35 +63,6 @@ impl LineCall {
     {
         let (name, numbers) = cut(line, SPACE)?;
         let (one, two) = cut(numbers, SPACE)?;
-        LineCall::of_words(Name::of(name), number(one), number(two))
+        LineCall::of(Name::of(name)?, number(one)?, number(two)?)
     }
-
-    // Makes the calls of a line, and answers what a board is told after the last of them.
-    pub fn work<M: Memory>(self, chip: &mut Module, memory: &mut M) -> Answer
-        ensures state { chip.new.state ≡ (left_from chip.old.state (M.holds memory.old) (calls_of self)).state }
-        ensures mem { M.holds memory.new ≡ (left_from chip.old.state (M.holds memory.old) (calls_of self)).mem }
-        ensures answer { result ≡ told (left_from chip.old.state (M.holds memory.old) (calls_of self)) }
-    {
-        match self {
-            LineCall::Level { scl, sda } => chip.work(memory, Call::Level { scl, sda }),
-            LineCall::Ticks { count } => tick(chip, memory, count),
-            LineCall::Supply { which } => chip.work(memory, Call::Supply { which }),
-        }
-    }
-}
-
-// Makes so many ticks.
-fn tick<M: Memory>(chip: &mut Module, memory: &mut M, count: u16) -> Answer
-    ensures state { chip.new.state ≡ (left_from chip.old.state (M.holds memory.old) (replicate count Tick)).state }
-    ensures mem { M.holds memory.new ≡ (left_from chip.old.state (M.holds memory.old) (replicate count Tick)).mem }
-    ensures answer { result ≡ told (left_from chip.old.state (M.holds memory.old) (replicate count Tick)) }
-{
-    let mut answer = Answer {
-        sda: !chip.pulls(),
-        refusal: None,
-    };
-    for _ in 0..count {
-        answer = chip.work(memory, Call::Tick);
-    }
-    answer
 }

@@ -1,6 +1,7 @@
 // Logs: a text of calls that is worked on a module line by line, and the reply to it.
 #![tactic(auto)]
 
+mod board;
 mod calls;
 mod lines;
 mod numbers;

@@ -1,7 +1,7 @@
-// Pieces of a text.
+// Pieces of a text, and its lines.
 ghost use Rattle.std.specs.Prelude.{◌≡◌};
-ghost use Rattle.std.specs.Str.{bytes_eq};
-ghost use Rattle.runlog.specs.Texts.{Cut};
+ghost use Rattle.std.specs.Iterator.{YieldsFirstRef, item_count};
+ghost use Rattle.runlog.specs.Texts.{Cut, lines};
 
 pub const SPACE: u8 = b' ';
 
@@ -11,17 +11,37 @@ pub const LF: u8 = b'\n';
 pub fn cut(text: &[u8], at: u8) -> Option<(&[u8], &[u8])>
     ensures { Cut at text.now result }
 {
-    for (i, byte) in text.iter().enumerate() {
-        if *byte == at {
-            return Some((&text[0..i], &text[i + 1..]));
-        }
-    }
-    None
+    let i = text.iter().position(|byte| *byte == at)?;
+    Some((&text[..i], &text[i + 1..]))
 }
 
-// Whether two texts are the same.
-pub fn is_text(text: &[u8], other: &[u8]) -> bool
-    ensures { result ≡ bytes_eq text.now other.now }
-{
-    text == other
+// The lines of a text, one after the other, without their LF.
+#[derive(Drop)]
+pub struct Lines<'a> {
+    rest: &'a [u8],
+}
+
+impl<'a> Lines<'a> {
+    pub fn of(text: &'a [u8]) -> Lines<'a>
+        ensures { result.rest.now ≡ text.now }
+    {
+        Lines { rest: text }
+    }
+}
+
+impl<'a> Iterator for Lines<'a> {
+    type Item = &'a [u8];
+
+    ghost next_gives = { YieldsFirstRef (λ s. lines s.rest.now) };
+
+    ghost remaining = { item_count (λ s. lines s.rest.now) };
+
+    fn next(&mut self) -> Option<&'a [u8]> {
+        if self.rest.is_empty() {
+            return None;
+        }
+        let (line, rest) = cut(self.rest, LF).unwrap_or((self.rest, &[]));
+        self.rest = rest;
+        Some(line)
+    }
 }

@@ -1,14 +1,13 @@
 // The reply to a log: its rows, and the room that they are written to.
-ghost use Rattle.std.specs.Prelude.{◌≡◌, ◌≤◌, decimal};
-ghost use Rattle.runlog.specs.Reply.{view, pushed, appended, field, row_of, row_text, Small};
-ghost use Rattle.runlog.specs.Numbers.{largest};
+ghost use Rattle.std.specs.Prelude.{◌≡◌, ◌+◌, ◌≤◌, length};
 
 use crate::lines::{LF, SPACE};
 use chip::calls::Answer;
-use chip::refusals::area_number;
+use itoa::Buffer;
 
 // A row of the reply: the number of the line, the level on SDA after it, and its refusal with area and address, or zeros.
-#[derive(Clone, Copy)]
+// Each is a number, since that is what a column of the reply holds.
+#[derive(Clone, Copy, PartialEq, Eq, Debug)]
 pub struct Row {
     pub line: u16,
     pub sda: u8,
@@ -18,83 +17,70 @@ pub struct Row {
 }
 
 impl Row {
+    ghost use Rattle.runlog.specs.Reply.{row_of};
+
     // The row of a line that was answered so.
     pub fn of(line: u16, answer: Answer) -> Row
         ensures { result ≡ row_of line answer }
     {
-        let sda = if answer.sda { 1 } else { 0 };
-        match answer.refusal {
-            None => Row {
+        let sda = u8::from(answer.sda);
+        let Some(refusal) = answer.refusal else {
+            return Row {
                 line,
                 sda,
                 fault: 0,
                 area: 0,
                 address: 0,
-            },
-            Some(refusal) => {
-                let report = refusal.report();
-                Row {
-                    line,
-                    sda,
-                    fault: report.number,
-                    area: area_number(report.area),
-                    address: report.address,
-                }
-            }
+            };
+        };
+        let report = refusal.report();
+        Row {
+            line,
+            sda,
+            fault: report.number,
+            area: report.area_number(),
+            address: report.address,
         }
     }
 }
 
 // Room for a reply, of which the first `used` bytes are written.
+// The length stands beside the room: std's writers over a lent slice do not say what it holds once the loan is over.
 #[derive(Drop)]
 pub struct Reply<'a> {
     pub room: &'a mut [u8],
     pub used: usize,
+    ghost within: { used ≤ length room.now },
 }
 
 impl Reply<'_> {
-    // One byte more, while there is room.
-    fn push(&mut self, byte: u8)
-        ensures { view self.new ≡ pushed byte (view self.old) }
-    {
-        if self.used < self.room.len() {
-            self.room[self.used] = byte;
-            self.used += 1;
-        }
-    }
+    ghost use Rattle.runlog.specs.Reply.{Appends, field, most_field, most_row, room_left, row_text};
 
     // The bytes of a text.
     pub fn text(&mut self, text: &[u8])
-        ensures { view self.new ≡ appended text.now (view self.old) }
+        requires { length text.now ≤ room_left self.old }
+        ensures { Appends self.old self.new text.now }
     {
-        for byte in text {
-            self.push(*byte);
-        }
+        let end = self.used + text.len();
+        self.room[self.used..end].copy_from_slice(text);
+        self.used = end;
     }
 
-    // A number in decimal.
-    fn number(&mut self, n: u16)
-        ensures { view self.new ≡ appended (decimal n) (view self.old) }
+    // A number in decimal, and the byte that ends it.
+    fn field(&mut self, number: u16, end: u8)
+        requires { most_field ≤ room_left self.old }
+        ensures written { Appends self.old self.new (field number end) }
+        ensures short { self.new.used ≤ self.old.used + most_field }
     {
-        if n >= 10 {
-            self.number(n / 10);
-        }
-        self.push(b'0' + (n % 10) as u8);
+        self.text(Buffer::new().format(number).as_bytes());
+        self.text(&[end]);
     }
 
-    // A number, and the byte that ends it.
-    fn field(&mut self, n: u16, end: u8)
-        ensures written { view self.new ≡ appended (field n end) (view self.old) }
-        ensures small { n ≤ largest }
-    {
-        self.number(n);
-        self.push(end);
-    }
-
-    // A row. Its numbers are such as the log's grammar has.
+    // A row, field by field: `write!` of a Display does not say that it succeeds, and a log that is run always has its reply.
     pub fn row(&mut self, row: Row)
-        ensures written { view self.new ≡ appended (row_text row) (view self.old) }
-        ensures small { Small row }
+        requires { most_row ≤ room_left self.old }
+        ensures written { Appends self.old self.new (row_text row) }
+        ensures short { self.new.used ≤ self.old.used + most_row }
     {
         self.field(row.line, SPACE);
         self.field(u16::from(row.sda), SPACE);

@@ -1,22 +1,26 @@
 -- Lists of calls: pulses, bytes and frames in the order in which the terminal makes them.
-use Rattle.std.specs.Prelude.{ℕ, zero, suc, ◌/◌, ◌%◌, List, [], ◌∷◌, ◌++◌, replicate}
+use Rattle.std.specs.Prelude.{ℕ, zero, suc, ◌/◌, ◌%◌, cond, is_ok, Result, List, [], ◌∷◌, ◌++◌, replicate}
 use Rattle.calendar.specs.Clock.{listed}
 use Rattle.calendar.specs.declared.clock.Clock.{Clock}
+use Rattle.std.specs.declared.alloc.AllocError.{AllocError}
+use Rattle.chip.specs.Calls.{supply_number}
+use Rattle.chip.specs.Slaves.{slave_byte, slave_of}
+use Rattle.chip.specs.declared.slaves.Direction.TheVariants.{Write, Read}
+use Rattle.terminal.specs.declared.frames.Latch.{Latch}
+use Rattle.terminal.specs.declared.frames.Latch.TheVariants.{Wel, Rwel}
 use Rattle.chip.specs.declared.calls.Call.{Call}
 use Rattle.chip.specs.declared.calls.Call.TheVariants.{Level, Tick, Supply as SupplyCall}
 use Rattle.chip.specs.declared.calls.Supply.{Supply}
-use Rattle.chip.specs.declared.calls.Supply.TheVariants.{Off, Main, Battery}
 use Rattle.chip.specs.declared.slaves.Area.{Area}
-use Rattle.chip.specs.declared.slaves.Area.TheVariants.{Array, Registers}
+use Rattle.chip.specs.declared.slaves.Area.TheVariants.{Registers}
 use Rattle.terminal.specs.declared.script.Reply.{Reply}
 use Rattle.terminal.specs.declared.script.Reply.TheVariants.{More, Last}
 
--- The number of a supply: none is 0, main 1, battery 2.
-abbrev pub supply_number : Supply → ℕ
-supply_number Off = 0
-supply_number Main = 1
-supply_number Battery = 2
+-- The calls are added, or on an error none is.
+abbrev pub added : Result Unit AllocError → List Call → List Call → List Call
+added r calls more = cond (is_ok r) (calls ++ more) calls
 
+-- A supply is named by its number.
 abbrev pub supply_calls : Supply → List Call
 supply_calls supply = SupplyCall (supply_number supply) ∷ []
 
@@ -65,12 +69,10 @@ release_calls =
 
 -- The slave bytes of an area.
 abbrev pub write_slave : Area → ℕ
-write_slave Array = 0xAE
-write_slave Registers = 0xDE
+write_slave area = slave_byte (slave_of area Write)
 
 abbrev pub read_slave : Area → ℕ
-read_slave Array = 0xAF
-read_slave Registers = 0xDF
+read_slave area = slave_byte (slave_of area Read)
 
 -- Bytes sent one after the other.
 unfoldable pub all_sent : List ℕ → List Call
@@ -94,13 +96,14 @@ all_received (suc n) = received More ++ all_received n
 abbrev pub with_seek : List Call → Area → ℕ → List Call
 with_seek calls area address = with_head calls area address ++ restart_calls ++ sent (read_slave area)
 
--- Status takes 02h: WEL is on.
-abbrev pub with_unlock : List Call → List Call
-with_unlock calls = with_write calls Registers 0x3F (0x02 ∷ [])
+-- The byte that puts a latch on: 02h WEL, 06h RWEL.
+abbrev pub latch_byte : Latch → ℕ
+latch_byte Wel = 0x02
+latch_byte Rwel = 0x06
 
--- Status takes 06h: RWEL is on too.
-abbrev pub with_register_unlock : List Call → List Call
-with_register_unlock calls = with_write calls Registers 0x3F (0x06 ∷ [])
+-- Status takes the byte of a latch.
+abbrev pub with_latch : List Call → Latch → List Call
+with_latch calls latch = with_write calls Registers 0x3F (latch_byte latch ∷ [])
 
 -- The eight clock bytes from 30h on.
 abbrev pub with_clock : List Call → Clock → List Call

@@ -1,9 +1,9 @@
 // What the bus refuses.
-use chip::refusals::{Refusal, area_number};
+use chip::refusals::Refusal;
 use std::fmt;
 
 // Why a write did nothing.
-#[derive(Clone, Copy)]
+#[derive(Clone, Copy, PartialEq, Eq, Debug)]
 pub enum BusError {
     // A byte was not acknowledged.
     Silent,
@@ -19,8 +19,8 @@ impl fmt::Display for BusError {
             BusError::Refused(refusal) => {
                 let report = refusal.report();
                 let number = report.number;
-                let layer = report.layer.number();
-                let area = area_number(report.area);
+                let layer = u8::from(report.layer);
+                let area = report.area_number();
                 let address = report.address;
                 write!(
                     f,

@@ -1,47 +1,40 @@
 // Whole frames of a script.
 ghost use Rattle.std.specs.Prelude.{◌≡◌, ◌-◌, ◌++◌, OnOk};
-ghost use Rattle.terminal.specs.Calls.{all_received, all_sent, read_slave, tick_calls, with_clock, with_head, with_register_unlock, with_seek, with_unlock, with_write, write_slave};
+ghost use Rattle.terminal.specs.Calls.{all_received, all_sent, tick_calls, with_clock, with_head, with_latch, with_seek, with_write};
 
 use crate::script::{Reply, Script};
 use calendar::Clock;
 use chip::calls::Call;
-use chip::slaves::Area;
+use chip::counter::Address;
+use chip::registers::Section;
+use chip::slaves::{Direction, Slave};
 use std::alloc::AllocError;
 
-// The status register, and the first of the clock.
-const STATUS: u16 = 0x3F;
-
-const CLOCK: u16 = 0x30;
-
-// The bytes that put the latches on.
-const WEL: u8 = 0x02;
-
-const RWEL: u8 = 0x06;
-
-// The slave byte of a write.
-fn write_slave(area: Area) -> u8
-    ensures { result ≡ write_slave area }
-{
-    match area {
-        Area::Array => 0xAE,
-        Area::Registers => 0xDE,
-    }
+// A write latch. The second can be put on only where the first is.
+#[derive(Clone, Copy, PartialEq, Eq, Debug)]
+pub enum Latch {
+    Wel,
+    Rwel,
 }
 
-// The slave byte of a read.
-fn read_slave(area: Area) -> u8
-    ensures { result ≡ read_slave area }
-{
-    match area {
-        Area::Array => 0xAF,
-        Area::Registers => 0xDF,
+ghost use Rattle.terminal.specs.Calls.{latch_byte};
+
+// The byte that status takes to put a latch on.
+impl From<Latch> for u8 {
+    ghost from_gives = { λ latch byte. byte ≡ latch_byte latch };
+
+    fn from(latch: Latch) -> u8 {
+        match latch {
+            Latch::Wel => 0x02,
+            Latch::Rwel => 0x06,
+        }
     }
 }
 
 impl Script {
     // Lets ticks pass.
     pub fn wait(&mut self, ticks: u32) -> Result<(), AllocError>
-        ensures { OnOk result (self.new.calls.items ≡ self.old.calls.items ++ tick_calls ticks) }
+        ensures { OnOk result (self.new ≡ self.old ++ tick_calls ticks) }
     {
         for _tick in 0..ticks {
             self.add(&[Call::Tick])?;
@@ -51,7 +44,7 @@ impl Script {
 
     // Sends bytes one after the other.
     pub fn send_all(&mut self, bytes: &[u8]) -> Result<(), AllocError>
-        ensures { OnOk result (self.new.calls.items ≡ self.old.calls.items ++ all_sent bytes.now) }
+        ensures { OnOk result (self.new ≡ self.old ++ all_sent bytes.now) }
     {
         for byte in bytes {
             self.send(*byte)?;
@@ -60,39 +53,40 @@ impl Script {
     }
 
     // Begins a write: a start, the slave byte and the address.
-    pub fn head(&mut self, area: Area, address: u16) -> Result<(), AllocError>
-        ensures { OnOk result (self.new.calls.items ≡ with_head self.old.calls.items area address) }
+    pub fn head(&mut self, to: Address) -> Result<(), AllocError>
+        ensures { OnOk result (self.new ≡ with_head self.old to.area to.offset) }
     {
+        let [high, low] = to.offset.to_be_bytes();
         self.start()?;
-        self.send(write_slave(area))?;
-        self.send((address / 256) as u8)?;
-        self.send((address % 256) as u8)?;
+        self.send(Slave::of(to.area, Direction::Write).into())?;
+        self.send(high)?;
+        self.send(low)?;
         Ok(())
     }
 
     // A whole write.
-    pub fn write(&mut self, area: Area, address: u16, bytes: &[u8]) -> Result<(), AllocError>
-        ensures { OnOk result (self.new.calls.items ≡ with_write self.old.calls.items area address bytes.now) }
+    pub fn write(&mut self, to: Address, bytes: &[u8]) -> Result<(), AllocError>
+        ensures { OnOk result (self.new ≡ with_write self.old to.area to.offset bytes.now) }
     {
-        self.head(area, address)?;
+        self.head(to)?;
         self.send_all(bytes)?;
         self.stop()?;
         Ok(())
     }
 
     // Sets the counter, and begins a read there.
-    pub fn seek(&mut self, area: Area, address: u16) -> Result<(), AllocError>
-        ensures { OnOk result (self.new.calls.items ≡ with_seek self.old.calls.items area address) }
+    pub fn seek(&mut self, to: Address) -> Result<(), AllocError>
+        ensures { OnOk result (self.new ≡ with_seek self.old to.area to.offset) }
     {
-        self.head(area, address)?;
+        self.head(to)?;
         self.restart()?;
-        self.send(read_slave(area))?;
+        self.send(Slave::of(to.area, Direction::Read).into())?;
         Ok(())
     }
 
     // Reads bytes one after the other, at least one.
     pub fn receive_all(&mut self, count: u16) -> Result<(), AllocError>
-        ensures { OnOk result (self.new.calls.items ≡ self.old.calls.items ++ all_received (count - 1)) }
+        ensures { OnOk result (self.new ≡ self.old ++ all_received (count - 1)) }
     {
         for _k in 1..count {
             self.receive(Reply::More)?;
@@ -101,25 +95,18 @@ impl Script {
         Ok(())
     }
 
-    // Puts WEL on.
-    pub fn unlock(&mut self) -> Result<(), AllocError>
-        ensures { OnOk result (self.new.calls.items ≡ with_unlock self.old.calls.items) }
+    // Puts a latch on: status takes its byte.
+    pub fn unlock(&mut self, latch: Latch) -> Result<(), AllocError>
+        ensures { OnOk result (self.new ≡ with_latch self.old latch) }
     {
-        self.write(Area::Registers, STATUS, &[WEL])
-    }
-
-    // Puts RWEL on, where WEL is on.
-    pub fn unlock_registers(&mut self) -> Result<(), AllocError>
-        ensures { OnOk result (self.new.calls.items ≡ with_register_unlock self.old.calls.items) }
-    {
-        self.write(Area::Registers, STATUS, &[RWEL])
+        self.write(Section::Status.address(), &[latch.into()])
     }
 
     // Writes the clock.
     pub fn write_clock(&mut self, clock: Clock) -> Result<(), AllocError>
-        ensures { OnOk result (self.new.calls.items ≡ with_clock self.old.calls.items clock) }
+        ensures { OnOk result (self.new ≡ with_clock self.old clock) }
     {
-        self.write(Area::Registers, CLOCK, &clock.bytes())?;
+        self.write(Section::Clock.address(), &<[u8; 8]>::from(clock))?;
         Ok(())
     }
 }

@@ -10,6 +10,7 @@ mod tests;
 mod tickets;
 
 pub use error::BusError;
+pub use frames::Latch;
 pub use rows::{Rows, read_bytes, write_outcome};
 pub use script::{Reply, Script};
-pub use tickets::{bill, clock_of, stamp_of, tare_address, weighing_address};
+pub use tickets::{bill, tare_address, weighing_address};

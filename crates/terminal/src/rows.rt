@@ -1,5 +1,5 @@
 // The rows: what the terminal is answered, call by call.
-ghost use Rattle.std.specs.Prelude.{◌≡◌, ℕ, ◌<◌, ◌≤◌, true, reverse, length, drop, vec_len, MatchResult, slice_index};
+ghost use Rattle.std.specs.Prelude.{◌≡◌, ℕ, ◌<◌, ◌≤◌, true, length, drop, MatchResult, slice_index};
 ghost use Rattle.law.specs.Run.{Lawful};
 ghost use Rattle.terminal.specs.Rows.{bit_at, byte_at, byte_of, level_at, write_outcome};
 
@@ -9,6 +9,7 @@ use chip::calls::Answer;
 use law::run;
 use memory::Memory;
 use std::alloc::{AllocError, Global};
+use std::marker::Model;
 
 // The rows of a byte: two for each of nine pulses.
 const BYTE_ROWS: usize = 18;
@@ -19,10 +20,20 @@ pub struct Rows {
     answers: Vec<Answer>,
 }
 
+// Rows are the list of their answers.
+impl Model for Rows {
+    ghost use Rattle.std.specs.Prelude.{List};
+    ghost use Rattle.chip.specs.declared.calls.Answer.{Answer};
+
+    ghost Value = { List Answer };
+
+    ghost view = { λ rows. rows.answers.items };
+}
+
 impl Rows {
     // Works a script on a module over a memory. Over a fit memory the whole law of a run holds of the script and its rows.
     pub fn of<M: Memory>(heap: Global, script: &Script, memory: &mut M) -> Result<Rows, AllocError>
-        ensures lawful { MatchResult result (λ rows. ((M.holds memory.old).fit ≡ true → Lawful (M.holds memory.old) script.now.calls.items rows.answers.items)) (λ _. M.holds memory.new ≡ M.holds memory.old) }
+        ensures lawful { MatchResult result (λ rows. ((M.holds memory.old).fit ≡ true → Lawful (M.holds memory.old) script.now rows)) (λ _. M.holds memory.new ≡ M.holds memory.old) }
     {
         let released = Answer {
             sda: true,
@@ -35,33 +46,31 @@ impl Rows {
 
     // The rows from a mark on.
     pub fn from(&self, mark: usize) -> &[Answer]
-        ensures { result.now ≡ drop mark self.now.answers.items }
+        ensures { result.now ≡ drop mark self.now }
     {
-        let rows = self.answers.as_slice();
-        if mark <= rows.len() {
-            rows.split_at(mark).1
-        } else {
-            &[]
-        }
+        behind(&self.answers, mark)
     }
+}
+
+// The rows behind the first `count`.
+fn behind(rows: &[Answer], count: usize) -> &[Answer]
+    ensures { result.now ≡ drop count rows.now }
+{
+    rows.get(count..).unwrap_or(&[])
 }
 
 // The level that the module leaves on SDA at a row; past the last row it is released.
 fn level_at(rows: &[Answer], row: usize) -> bool
     ensures { result ≡ level_at rows.now row }
 {
-    if row < rows.len() {
-        rows[row].sda
-    } else {
-        true
-    }
+    rows.get(row).is_none_or(|row| row.sda)
 }
 
 fn bit_at(rows: &[Answer], row: usize) -> u8
     ensures value { result ≡ bit_at rows.now row }
     ensures bound { result ≤ 1 }
 {
-    if level_at(rows, row) { 1 } else { 0 }
+    u8::from(level_at(rows, row))
 }
 
 // The byte of nine pulses that begin the rows.
@@ -78,14 +87,14 @@ fn byte_of(rows: &[Answer]) -> u8
         + bit_at(rows, 15)
 }
 
-// Byte k of the rows; FFh where they have not as many.
-fn byte_at(rows: &[Answer], k: usize) -> u8
-    ensures { result ≡ byte_at rows.now k }
+// The byte that the rows begin with; FFh where they have not as many rows.
+fn first_byte(rows: &[Answer]) -> u8
+    ensures { result ≡ byte_at rows.now 0 }
 {
-    if k < rows.len() / BYTE_ROWS {
-        byte_of(rows.split_at(BYTE_ROWS * k).1)
-    } else {
+    if rows.len() < BYTE_ROWS {
         0xFF
+    } else {
+        byte_of(rows)
     }
 }
 
@@ -93,8 +102,10 @@ fn byte_at(rows: &[Answer], k: usize) -> u8
 pub fn read_bytes(rows: &[Answer], bytes: &mut [u8])
     ensures { (k : ℕ) → k < length bytes.new → slice_index bytes.new k ≡ byte_at rows.now k }
 {
-    for k in 0..bytes.len() {
-        bytes[k] = byte_at(rows, k);
+    let mut left = rows;
+    for byte in bytes.iter_mut() {
+        *byte = first_byte(left);
+        left = behind(left, BYTE_ROWS);
     }
 }
 
@@ -106,11 +117,13 @@ pub fn write_outcome(rows: &[Answer], count: u16) -> Result<(), BusError>
     if level_at(rows, end) {
         return Err(BusError::Silent);
     }
-    if end + 3 >= rows.len() {
-        return Ok(());
-    }
-    match rows[end + 3].refusal {
-        Some(refusal) => Err(BusError::Refused(refusal)),
-        None => Ok(()),
+    match rows.get(end + 3) {
+        Some(
+            Answer {
+                refusal: Some(refusal),
+                ..
+            },
+        ) => Err(BusError::Refused(*refusal)),
+        _ => Ok(()),
     }
 }

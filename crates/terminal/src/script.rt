@@ -1,15 +1,30 @@
 // A script: the calls that the terminal makes, in their order.
-ghost use Rattle.std.specs.Prelude.{◌≡◌, [], ◌++◌, is_ok, if◌then◌else◌, vec_len};
-ghost use Rattle.terminal.specs.Calls.{nine, received, release_calls, reply_level, restart_calls, sent, start_calls, stop_calls, supply_calls, supply_number};
+ghost use Rattle.std.specs.Prelude.{◌≡◌, [], length};
+ghost use Rattle.terminal.specs.Calls.{added, nine, received, release_calls, reply_level, restart_calls, sent, start_calls, stop_calls, supply_calls};
 
+use chip::bits::is_zero_bit;
 use chip::calls::{Call, Supply};
 use std::alloc::{AllocError, Global};
+use std::array;
+use std::marker::Model;
 
 // What the terminal says with the ninth level of a byte that it reads.
-#[derive(Clone, Copy)]
+#[derive(Clone, Copy, PartialEq, Eq, Debug)]
 pub enum Reply {
     More,
     Last,
+}
+
+// The ninth level of a byte read.
+impl From<Reply> for u16 {
+    ghost from_gives = { λ reply level. level ≡ reply_level reply };
+
+    fn from(reply: Reply) -> u16 {
+        match reply {
+            Reply::More => 0,
+            Reply::Last => 1,
+        }
+    }
 }
 
 // The calls so far.
@@ -18,10 +33,20 @@ pub struct Script {
     calls: Vec<Call>,
 }
 
+// A script is the list of its calls.
+impl Model for Script {
+    ghost use Rattle.std.specs.Prelude.{List};
+    ghost use Rattle.chip.specs.declared.calls.Call.{Call};
+
+    ghost Value = { List Call };
+
+    ghost view = { λ script. script.calls.items };
+}
+
 impl Script {
     // A script without a call.
     pub fn new(heap: Global) -> Script
-        ensures { result.calls.items ≡ [] }
+        ensures { result ≡ [] }
     {
         Script {
             calls: Vec::new(heap),
@@ -30,78 +55,75 @@ impl Script {
 
     // The calls in their order.
     pub fn calls(&self) -> &[Call]
-        ensures { result.now ≡ self.now.calls.items }
+        ensures { result.now ≡ self.now }
     {
         self.calls.as_slice()
     }
 
     // The number of calls: the row of the next one.
     pub fn mark(&self) -> usize
-        ensures { result ≡ vec_len self.now.calls }
+        ensures { result ≡ length self.now }
     {
         self.calls.len()
     }
 
     // Adds calls, all or none.
     pub(crate) fn add(&mut self, calls: &[Call]) -> Result<(), AllocError>
-        ensures { self.new.calls.items ≡ (if is_ok result then self.old.calls.items ++ calls.now else self.old.calls.items) }
+        ensures { self.new ≡ added result self.old calls.now }
     {
         self.calls.extend_from_slice(calls)
     }
 
     // Switches the supply.
     pub fn supply(&mut self, supply: Supply) -> Result<(), AllocError>
-        ensures { self.new.calls.items ≡ (if is_ok result then self.old.calls.items ++ supply_calls supply else self.old.calls.items) }
+        ensures { self.new ≡ added result self.old (supply_calls supply) }
     {
         self.add(&[Call::Supply {
-            which: supply_number(supply),
+            which: supply.into(),
         }])
     }
 
     // A start, from both levels high.
     pub fn start(&mut self) -> Result<(), AllocError>
-        ensures { self.new.calls.items ≡ (if is_ok result then self.old.calls.items ++ start_calls else self.old.calls.items) }
+        ensures { self.new ≡ added result self.old start_calls }
     {
         self.add(&[high(0)])
     }
 
     // A repeated start.
     pub fn restart(&mut self) -> Result<(), AllocError>
-        ensures { self.new.calls.items ≡ (if is_ok result then self.old.calls.items ++ restart_calls else self.old.calls.items) }
+        ensures { self.new ≡ added result self.old restart_calls }
     {
         self.add(&[low(1), high(1), high(0)])
     }
 
     // A stop.
     pub fn stop(&mut self) -> Result<(), AllocError>
-        ensures { self.new.calls.items ≡ (if is_ok result then self.old.calls.items ++ stop_calls else self.old.calls.items) }
+        ensures { self.new ≡ added result self.old stop_calls }
     {
         self.add(&[low(0), high(0), high(1)])
     }
 
     // Sends a byte, and releases SDA for its acknowledge.
     pub fn send(&mut self, byte: u8) -> Result<(), AllocError>
-        ensures { self.new.calls.items ≡ (if is_ok result then self.old.calls.items ++ sent byte else self.old.calls.items) }
+        ensures { self.new ≡ added result self.old (sent byte) }
     {
         self.add(&nine_pulses(byte, 1))
     }
 
     // Reads a byte with SDA released, and replies.
     pub fn receive(&mut self, reply: Reply) -> Result<(), AllocError>
-        ensures { self.new.calls.items ≡ (if is_ok result then self.old.calls.items ++ received reply else self.old.calls.items) }
+        ensures { self.new ≡ added result self.old (received reply) }
     {
-        self.add(&nine_pulses(0xFF, reply_level(reply)))
+        self.add(&nine_pulses(0xFF, reply.into()))
     }
 
     // Frees the wire: ten pulses with SDA released.
     pub fn release(&mut self) -> Result<(), AllocError>
-        ensures { self.new.calls.items ≡ (if is_ok result then self.old.calls.items ++ release_calls else self.old.calls.items) }
+        ensures { self.new ≡ added result self.old release_calls }
     {
-        let (fall, rise) = (low(1), high(1));
-        self.add(&[
-            fall, rise, fall, rise, fall, rise, fall, rise, fall, rise, fall, rise, fall, rise,
-            fall, rise, fall, rise, fall, rise,
-        ])
+        let pulses: [Call; 20] = array::from_fn(|k| if k % 2 == 0 { low(1) } else { high(1) });
+        self.add(&pulses)
     }
 }
 
@@ -121,27 +143,6 @@ fn high(sda: u16) -> Call
     Call::Level { scl: 1, sda }
 }
 
-// The number of a supply.
-fn supply_number(supply: Supply) -> u16
-    ensures { result ≡ supply_number supply }
-{
-    match supply {
-        Supply::Off => 0,
-        Supply::Main => 1,
-        Supply::Battery => 2,
-    }
-}
-
-// The ninth level of a byte read.
-fn reply_level(reply: Reply) -> u16
-    ensures { result ≡ reply_level reply }
-{
-    match reply {
-        Reply::More => 0,
-        Reply::Last => 1,
-    }
-}
-
 // Eight pulses with the bits of a byte, the highest first, and a ninth.
 fn nine_pulses(byte: u8, ninth: u16) -> [Call; 18]
     ensures { result ≡ nine byte ninth }
@@ -149,24 +150,9 @@ fn nine_pulses(byte: u8, ninth: u16) -> [Call; 18]
     let byte = u16::from(byte);
     let (a, b, c, d) = (byte / 128 % 2, byte / 64 % 2, byte / 32 % 2, byte / 16 % 2);
     let (e, f, g, h) = (byte / 8 % 2, byte / 4 % 2, byte / 2 % 2, byte % 2);
-    [
-        low(a),
-        high(a),
-        low(b),
-        high(b),
-        low(c),
-        high(c),
-        low(d),
-        high(d),
-        low(e),
-        high(e),
-        low(f),
-        high(f),
-        low(g),
-        high(g),
-        low(h),
-        high(h),
-        low(ninth),
-        high(ninth),
-    ]
+    let levels = [a, b, c, d, e, f, g, h, ninth];
+    array::from_fn(|k| {
+        let level = levels[k / 2];
+        if k % 2 == 0 { low(level) } else { high(level) }
+    })
 }

@@ -1,7 +1,9 @@
 // Examples: a byte on the wires, a write and its read, and a bill.
+use crate::frames::Latch;
 use crate::rows::{Rows, read_bytes, write_outcome};
 use crate::script::Script;
 use chip::calls::Supply;
+use chip::counter::Address;
 use chip::slaves::Area;
 use memory::{Image, Memory, factory_bytes};
 use std::test::Fail;
@@ -10,14 +12,18 @@ use std::test::Fail;
 #[test]
 fn stores_and_reads(rt: HostRuntime) -> Result<(), Fail> {
     let mut script = Script::new(rt.alloc());
+    let to = Address {
+        area: Area::Array,
+        offset: 0x40,
+    };
     script.supply(Supply::Main)?;
     let silent = script.mark();
-    script.write(Area::Array, 0x40, &[0x5A])?;
-    script.unlock()?;
+    script.write(to, &[0x5A])?;
+    script.unlock(Latch::Wel)?;
     let taken = script.mark();
-    script.write(Area::Array, 0x40, &[0x5A])?;
+    script.write(to, &[0x5A])?;
     script.wait(164)?;
-    script.seek(Area::Array, 0x40)?;
+    script.seek(to)?;
     let read = script.mark();
     script.receive_all(2)?;
     script.stop()?;

@@ -29,10 +29,7 @@ fn show<M: Memory>(rt: &impl Print, memory: &mut M, step: Step) -> io::Result<()
 
 /// Works the planned day, and prints each step.
 fn show_day<M: Memory>(rt: &impl Print, memory: &mut M) -> io::Result<()> {
-    for n in 0..u16::MAX {
-        let Some(step) = planned(n) else {
-            break;
-        };
+    for step in (0..u16::MAX).map_while(|n| planned(n)) {
         show(rt, memory, step)?;
     }
     Ok(())
@@ -42,14 +39,10 @@ fn show_day<M: Memory>(rt: &impl Print, memory: &mut M) -> io::Result<()> {
 fn work_day<M: Memory>(memory: &mut M) -> (u16, u16) {
     let mut done = 0u16;
     let mut refused = 0u16;
-    for n in 0..u16::MAX {
-        let Some(step) = planned(n) else {
-            break;
-        };
-        if step.work(memory).is_ok() {
-            done += 1;
-        } else {
-            refused += 1;
+    for step in (0..u16::MAX).map_while(|n| planned(n)) {
+        match step.work(memory) {
+            Ok(_) => done = done.saturating_add(1),
+            Err(_) => refused = refused.saturating_add(1),
         }
     }
     (done, refused)
@@ -62,12 +55,7 @@ fn compare<A: Memory, B: Memory>(rt: &impl Print, a: &A, b: &B) -> io::Result<()
     if fetch(a, 0, &mut first).is_err() || fetch(b, 0, &mut second).is_err() {
         return println!(rt; "a memory cannot be read");
     }
-    let mut same = 0usize;
-    for place in 0..PLACES {
-        if first[place] == second[place] {
-            same += 1;
-        }
-    }
+    let same = first.iter().zip(&second).filter(|(a, b)| a == b).count();
     println!(rt; "{same} of {PLACES} bytes are the same in both memories")
 }
 

@@ -1,23 +1,21 @@
 //! A night over the two wires: the terminal writes its script, has it worked, and shows what it saw.
 use calendar::Clock;
-use chip::calls::Supply;
-use chip::slaves::Area;
-use ledger::{Tare, Weighing};
+use chip::calls::{Answer, Supply};
+use chip::counter::Address;
+use chip::registers::Section;
+use chip::slaves::Slave;
+use ledger::{Record, Tare, Weighing};
 use memory::Memory;
 use std::alloc::{AllocError, Global};
 use std::io;
 use terminal::{
-    Reply, Rows, Script, bill, clock_of, read_bytes, stamp_of, tare_address, weighing_address,
-    write_outcome,
+    Latch, Reply, Rows, Script, bill, read_bytes, tare_address, weighing_address, write_outcome,
 };
 
 /// The ticks of a second, and of a write cycle.
 const SECOND: u32 = 32_768;
 
 const WRITE_CYCLE: u32 = 164;
-
-/// The slave byte of a read of the array.
-const ARRAY_READ: u8 = 0xAF;
 
 /// The trucks of the night, whose tares fill a page.
 const TRUCKS: u8 = 8;
@@ -129,7 +127,7 @@ impl Night {
     /// Reads one byte where the counter stands.
     fn read_first(&mut self) -> Result<(), AllocError> {
         self.script.start()?;
-        self.script.send(ARRAY_READ)?;
+        self.script.send(Slave::ArrayRead.into())?;
         let mark = self.script.mark();
         self.script.receive(Reply::Last)?;
         self.script.stop()?;
@@ -137,13 +135,13 @@ impl Night {
     }
 
     fn unlock(&mut self) -> Result<(), AllocError> {
-        self.script.unlock()?;
+        self.script.unlock(Latch::Wel)?;
         self.note(Deed::Unlocked)
     }
 
     fn unlock_registers(&mut self) -> Result<(), AllocError> {
-        self.script.unlock()?;
-        self.script.unlock_registers()?;
+        self.script.unlock(Latch::Wel)?;
+        self.script.unlock(Latch::Rwel)?;
         self.note(Deed::RegistersUnlocked)
     }
 
@@ -193,8 +191,7 @@ impl Night {
             page.extend_from_slice(&tare.encode())?;
         }
         let mark = self.script.mark();
-        self.script
-            .write(Area::Array, tare_address(0), page.as_slice())?;
+        self.script.write(tare_address(0), page.as_slice())?;
         self.note(Deed::TaresWritten { mark })?;
         self.wait_for_cycle()
     }
@@ -204,7 +201,7 @@ impl Night {
         Weighing {
             truck,
             gross,
-            stamp: stamp_of(self.clock),
+            stamp: self.clock.into(),
         }
     }
 
@@ -212,8 +209,7 @@ impl Night {
     fn weigh(&mut self, ticket: u8, gross: u32) -> Result<(), AllocError> {
         let load = self.load(u16::from(ticket), gross);
         let mark = self.script.mark();
-        self.script
-            .write(Area::Array, weighing_address(ticket), &load.encode())?;
+        self.script.write(weighing_address(ticket), &load.encode())?;
         self.note(Deed::Weighed { ticket, load, mark })?;
         self.wait_for_cycle()
     }
@@ -221,7 +217,7 @@ impl Night {
     /// Main supply fails in the middle of a write, and comes back a second later.
     fn weigh_half(&mut self, ticket: u8, gross: u32) -> Result<(), AllocError> {
         let bytes = self.load(u16::from(ticket), gross).encode();
-        self.script.head(Area::Array, weighing_address(ticket))?;
+        self.script.head(weighing_address(ticket))?;
         self.script.send_all(&bytes[0..8])?;
         self.note(Deed::HalfSent { ticket })?;
         self.supply(Supply::Battery)?;
@@ -230,8 +226,8 @@ impl Night {
     }
 
     /// Reads bytes from an address on, and answers the row where they begin.
-    fn read(&mut self, area: Area, address: u16, count: u16) -> Result<usize, AllocError> {
-        self.script.seek(area, address)?;
+    fn read(&mut self, from: Address, count: u16) -> Result<usize, AllocError> {
+        self.script.seek(from)?;
         let mark = self.script.mark();
         self.script.receive_all(count)?;
         self.script.stop()?;
@@ -239,18 +235,18 @@ impl Night {
     }
 
     fn read_clock(&mut self) -> Result<(), AllocError> {
-        let mark = self.read(Area::Registers, 0x30, 8)?;
+        let mark = self.read(Section::Clock.address(), 8)?;
         self.note(Deed::ClockRead { mark })
     }
 
     fn read_ticket(&mut self, ticket: u8) -> Result<(), AllocError> {
-        let mark = self.read(Area::Array, weighing_address(ticket), 16)?;
+        let mark = self.read(weighing_address(ticket), 16)?;
         self.note(Deed::TicketRead { ticket, mark })
     }
 
     /// Breaks a read off behind its first byte, and frees the wire.
     fn lose_place(&mut self) -> Result<(), AllocError> {
-        self.script.seek(Area::Array, weighing_address(0))?;
+        self.script.seek(weighing_address(0))?;
         self.script.receive(Reply::More)?;
         let mark = self.script.mark();
         self.script.release()?;
@@ -259,8 +255,8 @@ impl Night {
 
     /// Reads a ticket and its truck's tare to bill it.
     fn bill(&mut self, ticket: u8) -> Result<(), AllocError> {
-        let weighing = self.read(Area::Array, weighing_address(ticket), 16)?;
-        let tare = self.read(Area::Array, tare_address(ticket), 8)?;
+        let weighing = self.read(weighing_address(ticket), 16)?;
+        let tare = self.read(tare_address(ticket), 8)?;
         self.note(Deed::Billed {
             ticket,
             weighing,
@@ -312,63 +308,48 @@ impl Night {
     }
 }
 
-/// The bytes that a part of the rows begins with.
-fn bytes_at<const N: usize>(rows: &Rows, mark: usize) -> [u8; N] {
+/// The bytes that rows begin with.
+fn bytes_of<const N: usize>(rows: &[Answer]) -> [u8; N] {
     let mut bytes = [0; N];
-    read_bytes(rows.from(mark), &mut bytes);
+    read_bytes(rows, &mut bytes);
     bytes
 }
 
 /// Prints what became of a write.
-fn show_write(rt: &impl Print, rows: &Rows, mark: usize, count: u16) -> io::Result<()> {
-    match write_outcome(rows.from(mark), count) {
+fn show_write(rt: &impl Print, rows: &[Answer], count: u16) -> io::Result<()> {
+    match write_outcome(rows, count) {
         Ok(()) => println!(rt; "taken"),
         Err(error) => println!(rt; "{error}"),
     }
 }
 
-fn show_ticket(rt: &impl Print, rows: &Rows, ticket: u8, mark: usize) -> io::Result<()> {
-    match Weighing::decode(bytes_at(rows, mark)) {
-        Some(load) => {
-            let truck = load.truck;
-            let gross = load.gross;
-            let clock = clock_of(load.stamp);
-            println!(rt; "ticket {ticket} holds truck {truck}, gross {gross} kg, {clock}")
-        }
-        None => println!(rt; "ticket {ticket} holds nothing to bill"),
-    }
+fn show_ticket(rt: &impl Print, ticket: u8, rows: &[Answer]) -> io::Result<()> {
+    let Some(load) = Weighing::decode(bytes_of(rows)) else {
+        return println!(rt; "ticket {ticket} holds nothing to bill");
+    };
+    let truck = load.truck;
+    let gross = load.gross;
+    let clock = Clock::from(load.stamp);
+    println!(rt; "ticket {ticket} holds truck {truck}, gross {gross} kg, {clock}")
 }
 
 /// Prints how many of ten pulses found the wire high.
-fn show_pulses(rt: &impl Print, rows: &Rows, mark: usize) -> io::Result<()> {
-    let mut high = 0u8;
-    let rows = rows.from(mark);
-    for pulse in 0..10usize {
-        if let Some(row) = rows.get(2 * pulse + 1)
-            && row.sda
-        {
-            high = high.saturating_add(1);
-        }
-    }
+fn show_pulses(rt: &impl Print, rows: &[Answer]) -> io::Result<()> {
+    let rises = rows.iter().skip(1).step_by(2).take(10);
+    let high = rises.filter(|row| row.sda).count();
     println!(rt;
         "a read broken off, and ten pulses with SDA released: the wire is high at {high} of them"
     )
 }
 
-fn show_bill(
-    rt: &impl Print,
-    rows: &Rows,
-    ticket: u8,
-    weighing: usize,
-    tare: usize,
-) -> io::Result<()> {
-    match bill(bytes_at(rows, weighing), bytes_at(rows, tare)) {
+fn show_bill(rt: &impl Print, ticket: u8, weighing: &[Answer], tare: &[Answer]) -> io::Result<()> {
+    match bill(bytes_of(weighing), bytes_of(tare)) {
         Ok(invoice) => {
             let truck = invoice.truck;
             let gross = invoice.gross;
             let tare = invoice.tare;
             let net = invoice.net;
-            let clock = clock_of(invoice.stamp);
+            let clock = Clock::from(invoice.stamp);
             println!(rt;
                 "ticket {ticket}, {clock}: truck {truck}, gross {gross} kg, tare {tare} kg, net {net} kg"
             )
@@ -384,38 +365,39 @@ fn show(rt: &impl Print, rows: &Rows, deed: Deed) -> io::Result<()> {
         Deed::Supplied(Supply::Main) => println!(rt; "main supply"),
         Deed::Supplied(Supply::Battery) => println!(rt; "battery supply"),
         Deed::FirstByte { mark } => {
-            let byte = bytes_at::<1>(rows, mark)[0];
+            let [byte] = bytes_of::<1>(rows.from(mark));
             println!(rt; "a read without an address answers {byte:02X}h")
         }
         Deed::Unlocked => println!(rt; "WEL on"),
         Deed::RegistersUnlocked => println!(rt; "WEL and RWEL on"),
         Deed::ClockWritten { clock, mark } => {
             print!(rt; "write the clock, {clock}: ")?;
-            show_write(rt, rows, mark, 8)
+            show_write(rt, rows.from(mark), 8)
         }
         Deed::TaresWritten { mark } => {
             print!(rt; "store {TRUCKS} tares: ")?;
-            show_write(rt, rows, mark, 64)
+            show_write(rt, rows.from(mark), 64)
         }
         Deed::Weighed { ticket, load, mark } => {
             let gross = load.gross;
-            let clock = clock_of(load.stamp);
+            let clock = Clock::from(load.stamp);
             print!(rt; "store ticket {ticket}, gross {gross} kg, {clock}: ")?;
-            show_write(rt, rows, mark, 16)
+            show_write(rt, rows.from(mark), 16)
         }
         Deed::HalfSent { ticket } => println!(rt; "store ticket {ticket}: half of it is sent"),
         Deed::SecondPassed { clock } => println!(rt; "a second mark: it should be {clock}"),
         Deed::ClockRead { mark } => {
-            let clock = Clock::from_bytes(bytes_at(rows, mark));
+            let bytes: [u8; 8] = bytes_of(rows.from(mark));
+            let clock = Clock::from(bytes);
             println!(rt; "the clock registers say {clock}")
         }
-        Deed::TicketRead { ticket, mark } => show_ticket(rt, rows, ticket, mark),
-        Deed::Released { mark } => show_pulses(rt, rows, mark),
+        Deed::TicketRead { ticket, mark } => show_ticket(rt, ticket, rows.from(mark)),
+        Deed::Released { mark } => show_pulses(rt, rows.from(mark)),
         Deed::Billed {
             ticket,
             weighing,
             tare,
-        } => show_bill(rt, rows, ticket, weighing, tare),
+        } => show_bill(rt, ticket, rows.from(weighing), rows.from(tare)),
     }
 }
 

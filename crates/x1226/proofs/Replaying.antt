@@ -1,5 +1,5 @@
 -- One call more of a list that is worked.
-use Rattle.std.proofs.Common.{◌≡◌, ℕ, ◌+◌, ◌<◌, ◌≢◌, List, [], ◌∷◌, reverse, length, get_or, take, set, sym, refl, ap, ◌∙◌, arith, get_or-set_other, get_or-set_same, below_more}
+use Rattle.std.proofs.Common.{◌≡◌, ℕ, ◌+◌, ◌<◌, ◌≢◌, List, [], ◌∷◌, reverse, length, get_or, take, drop, set, sym, refl, ap, ◌∙◌, arith, get_or-set_other, get_or-set_same, below_more, add-one, length-drop, drop-cons}
 use mathlib.Core.List.{reverse-append}
 use Rattle.std.proofs.lemmas.List.{take_more}
 use Rattle.memory.specs.Model.{Mem}
@@ -14,6 +14,18 @@ use Rattle.x1226.specs.Replay.{no_call, no_row, first, left_by, Replayed}
 pub first_more : (calls : List Call) (k : ℕ) → k < length calls → first (k + 1) calls ≡ get_or calls k no_call ∷ first k calls
 first_more calls k more =
     ap reverse (take_more calls k no_call more) ∙ reverse-append (take k calls) (get_or calls k no_call ∷ [])
+
+-- The calls from call k on begin with call k.
+pub record Next (calls : List Call) (k : ℕ) (call : Call) (later : List Call) : Type 0 where
+  pub below : k < length calls
+  pub call_is : call ≡ get_or calls k no_call
+  pub later_is : later ≡ drop (k + 1) calls
+
+pub next_of : (calls : List Call) (k : ℕ) (call : Call) (later : List Call) → drop k calls ≡ call ∷ later → Next calls k call later
+next_of calls k call later is =
+    let below : k < length calls = omega (arith, length-drop k calls, ap length is) in
+    let first : drop k calls ≡ get_or calls k no_call ∷ drop (k + 1) calls = rw (add-one) (drop-cons calls k no_call below) in
+    record { below = below; call_is = cc; later_is = cc }
 
 -- What the first k + 1 calls leave is what call k leaves of what the first k left.
 pub left_more : (was : Mem) (calls : List Call) (k : ℕ) → k < length calls → left was (first (k + 1) calls) ≡ left_by was calls k

@@ -38,6 +38,10 @@ show s m place = cond m.fit (shown s m place) (Err Unfit)
 abbrev pub interrupt_byte : Mem → ℕ
 interrupt_byte m = slice_index m.bytes (place_of Registers interrupt_register)
 
+-- The byte stored for INT; an unfit memory is refused.
+abbrev pub interrupt_read : Mem → Result ℕ Refusal
+interrupt_read m = cond m.fit (Ok (interrupt_byte m)) (Err Unfit)
+
 -- AL1 is on with INT bit 6, or AL0 with INT bit 5.
 abbrev pub alarm_interrupts : State → ℕ → Bool
 alarm_interrupts s int = (s.flags.second && int / 64 % 2 == 1) || (s.flags.first && int / 32 % 2 == 1)

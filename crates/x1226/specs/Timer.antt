@@ -43,14 +43,17 @@ alarm_byte m s k = slice_index m.bytes (place_of Registers (first_of s + k))
 abbrev pub alarm : Mem → Section → Alarm
 alarm m s =
     record {
-      seconds = alarm_byte m s 0;
-      minutes = alarm_byte m s 1;
-      hours = alarm_byte m s 2;
-      date = alarm_byte m s 3;
-      month = alarm_byte m s 4;
-      year = alarm_byte m s 5;
-      weekday = alarm_byte m s 6;
-      century = alarm_byte m s 7;
+      bytes =
+          record {
+            seconds = alarm_byte m s 0;
+            minutes = alarm_byte m s 1;
+            hours = alarm_byte m s 2;
+            date = alarm_byte m s 3;
+            month = alarm_byte m s 4;
+            year = alarm_byte m s 5;
+            weekday = alarm_byte m s 6;
+            century = alarm_byte m s 7;
+          };
     }
 
 -- The alarms that match a date shown.

@@ -8,8 +8,9 @@ ghost use Rattle.x1226.specs.State.{made};
 ghost use Rattle.x1226.specs.Step.{worked, told};
 ghost use Rattle.x1226.specs.Store.{verdict};
 
+use crate::fit::Fit;
 use crate::state::State;
-use chip::calls::{Answer, Call, Event};
+use chip::calls::{Answer, Call};
 use chip::pins::Pin;
 use chip::refusals::Refusal;
 use chip::wires::Levels;
@@ -50,17 +51,11 @@ impl Module {
         if !memory.is_fit() {
             return Err(Refusal::Unfit);
         }
-        match call.accepted()? {
-            Event::Given { levels } => self.state.give(memory, levels),
-            Event::Ticked => {
-                self.state.tick(memory);
-                Ok(())
-            }
-            Event::Supplied { supply } => {
-                self.state.switch(supply);
-                Ok(())
-            }
-        }
+        let event = call.accepted()?;
+        let mut fit = Fit { memory };
+        let answer = self.state.work(&mut fit, event);
+        let _memory = fit.memory;
+        answer
     }
 
     // Takes the master's levels, 0 or 1 each, and answers the level that the module leaves on SDA: low where it pulls.
@@ -108,19 +103,13 @@ impl Module {
     pub fn show<M: Memory>(&self, memory: &M, place: u16) -> Result<u8, Refusal>
         ensures { result ≡ show self.now.state (M.holds memory.now) place }
     {
-        if !memory.is_fit() {
-            return Err(Refusal::Unfit);
-        }
-        self.state.shown(memory, place)
+        self.state.show(memory, place)
     }
 
     // What the interrupt pin does.
     pub fn pin<M: Memory>(&self, memory: &M) -> Result<Pin, Refusal>
         ensures { result ≡ pin self.now.state (M.holds memory.now) }
     {
-        if !memory.is_fit() {
-            return Err(Refusal::Unfit);
-        }
-        Ok(self.state.pin_shown(memory))
+        self.state.pin(memory)
     }
 }

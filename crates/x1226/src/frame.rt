@@ -1,15 +1,26 @@
 // What a start, and a fall of SCL, do in a frame.
 ghost use Rattle.std.specs.Prelude.{◌≡◌};
-ghost use Rattle.x1226.specs.Memories.{Ready};
 ghost use Rattle.x1226.specs.Answers.{answered, sent_bit};
 ghost use Rattle.x1226.specs.Frame.{started, takes, sending, copied, addressed_as, located, staged, acknowledged, sent_whole};
 
+use crate::fit::Fit;
 use crate::state::{Alarms, Copies, Phase, STAGED, Staging, State};
-use chip::counter::{address_in, at_status, next_read, next_written, takes_data};
+use chip::counter::Address;
 use chip::slaves::Slave;
 use memory::Memory;
 
 impl State {
+    // Where the counter stands, in the area of the frame.
+    pub fn counted(&self) -> Address
+        ensures area { result.area ≡ self.now.area }
+        ensures offset { result.offset ≡ self.now.counter }
+    {
+        Address {
+            area: self.area,
+            offset: self.counter,
+        }
+    }
+
     // A start opens a frame with nothing staged.
     pub fn start(&mut self)
         ensures { self.new ≡ started self.old }
@@ -25,12 +36,11 @@ impl State {
         match stage {
             0 => Slave::named(byte).is_some(),
             1 | 2 => true,
-            _ => takes_data(
-                self.latches.wel,
-                self.area,
-                self.staging.address,
-                stage == 3,
-            ),
+            _ => Address {
+                area: self.area,
+                offset: self.staging.address,
+            }
+            .takes_data(self.latches.wel, stage == 3),
         }
     }
 
@@ -46,11 +56,10 @@ impl State {
     }
 
     // The next byte is sent, from its highest bit on.
-    pub fn send<M: Memory>(&mut self, memory: &M)
-        requires { Ready (M.holds memory.now) }
-        ensures { self.new ≡ sending self.old (M.holds memory.now) }
+    pub fn send<M: Memory>(&mut self, fit: &Fit<M>)
+        ensures { self.new ≡ sending self.old fit.now.mem }
     {
-        let byte = self.to_send(memory);
+        let byte = self.to_send(fit);
         self.phase = Phase::Sending { sent: 0, byte };
     }
 
@@ -62,14 +71,13 @@ impl State {
         self.copies = Copies {
             clock: self.timer.clock,
             status,
-            matched: Alarms::none(),
+            matched: Alarms::NONE,
         };
     }
 
     // The slave byte's acknowledge ends: a read copies and sends, a write goes on to its address.
-    fn addressed<M: Memory>(&mut self, memory: &M, slave: Option<Slave>)
-        requires { Ready (M.holds memory.now) }
-        ensures { self.new ≡ addressed_as slave self.old (M.holds memory.now) }
+    fn addressed<M: Memory>(&mut self, fit: &Fit<M>, slave: Option<Slave>)
+        ensures { self.new ≡ addressed_as slave self.old fit.now.mem }
     {
         let Some(slave) = slave else {
             self.phase = Phase::Deaf;
@@ -78,7 +86,7 @@ impl State {
         self.area = slave.area();
         if slave.is_read() {
             self.copy();
-            self.send(memory);
+            self.send(fit);
         } else {
             self.phase = Phase::awaiting(1);
         }
@@ -98,23 +106,22 @@ impl State {
     fn stage(&mut self, byte: u8)
         ensures { self.new ≡ staged byte self.old }
     {
-        self.staging.held[self.counter as usize % STAGED] = Some(byte);
-        self.counter = next_written(self.area, self.counter);
+        self.staging.held[usize::from(self.counter) % STAGED] = Some(byte);
+        self.counter = self.counted().next_written();
         self.phase = Phase::awaiting(4);
     }
 
     // An acknowledge ends.
-    pub fn acknowledged<M: Memory>(&mut self, memory: &M, stage: u8, byte: u8)
-        requires { Ready (M.holds memory.now) }
-        ensures { self.new ≡ acknowledged stage byte self.old (M.holds memory.now) }
+    pub fn acknowledged<M: Memory>(&mut self, fit: &Fit<M>, stage: u8, byte: u8)
+        ensures { self.new ≡ acknowledged stage byte self.old fit.now.mem }
     {
         match stage {
-            0 => self.addressed(memory, Slave::named(byte)),
+            0 => self.addressed(fit, Slave::named(byte)),
             1 => {
                 self.high = byte;
                 self.phase = Phase::awaiting(2);
             }
-            2 => self.locate(address_in(self.area, self.high, byte)),
+            2 => self.locate(self.area.address(self.high, byte)),
             _ => self.stage(byte),
         }
     }
@@ -124,14 +131,15 @@ impl State {
     fn sent_whole(&mut self)
         ensures { self.new ≡ sent_whole self.old }
     {
-        if at_status(self.area, self.counter) {
+        if self.counted().is_status() {
             self.flags = self.copies.matched;
             self.phase = Phase::Deaf;
         } else {
-            self.counter = next_read(self.area, self.counter);
+            self.counter = self.counted().next_read();
             self.phase = Phase::Listening;
         }
     }
+
     // A bit sent is over: the next one follows, or the byte is whole.
     pub fn sent_bit(&mut self, sent: u8, byte: u8)
         ensures { self.new ≡ sent_bit sent byte self.old }

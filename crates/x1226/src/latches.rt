@@ -1,18 +1,26 @@
 // The two write latches.
-ghost use Rattle.std.specs.Prelude.{◌≡◌};
-ghost use Rattle.x1226.specs.State.{latches_off};
+ghost use Rattle.std.specs.Prelude.{◌≡◌, if◌then◌else◌, Ok, Err};
+ghost use Rattle.chip.specs.declared.refusals.Refusal.TheVariants.{RwelOff};
 ghost use Rattle.x1226.specs.Stop.{latches_after};
 
 use crate::state::Latches;
+use chip::refusals::Refusal;
 
 impl Latches {
     // Both off.
-    pub fn off() -> Latches
-        ensures { result ≡ latches_off }
+    pub const OFF: Latches = Latches {
+        wel: false,
+        rwel: false,
+    };
+
+    // Refuses a write to a register where RWEL is off.
+    pub fn check_rwel(self, register: u16) -> Result<(), Refusal>
+        ensures { result ≡ (if self.rwel then Ok tt else Err (RwelOff register)) }
     {
-        Latches {
-            wel: false,
-            rwel: false,
+        if self.rwel {
+            Ok(())
+        } else {
+            Err(Refusal::RwelOff { register })
         }
     }
 
@@ -25,7 +33,7 @@ impl Latches {
                 wel: true,
                 rwel: false,
             },
-            0x00 => Latches::off(),
+            0x00 => Latches::OFF,
             0x06 if self.wel => Latches {
                 wel: true,
                 rwel: true,

@@ -3,6 +3,7 @@
 
 mod alarms;
 mod board;
+mod fit;
 mod frame;
 mod latches;
 mod levels;

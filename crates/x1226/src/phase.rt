@@ -47,10 +47,13 @@ impl Phase {
     pub fn closes(self) -> bool
         ensures { result ≡ closes self }
     {
-        match self {
-            Phase::Receiving { stage, bits, .. } => stage == 4 && bits == 1,
-            Phase::Acknowledging { .. } | Phase::Sending { .. } => false,
-            Phase::Deaf | Phase::Listening => false,
-        }
+        matches!(
+            self,
+            Phase::Receiving {
+                stage: 4,
+                bits: 1,
+                ..
+            }
+        )
     }
 }

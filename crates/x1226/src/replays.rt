@@ -11,8 +11,13 @@ pub fn replay<M: Memory>(memory: &mut M, calls: &[Call], rows: &mut [Answer]) ->
     ensures { Replayed (min (length calls.now) (length rows.old)) (M.holds memory.old) calls.now rows.old rows.new result.state (M.holds memory.new) }
 {
     let mut module = Module::make();
-    for k in 0..calls.len().min(rows.len()) {
-        rows[k] = module.work(memory, calls[k]);
+    let mut left = calls;
+    for row in rows.iter_mut() {
+        let Some((call, later)) = left.split_first() else {
+            break;
+        };
+        *row = module.work(memory, *call);
+        left = later;
     }
     module
 }

@@ -1,16 +1,13 @@
 // What a board is told without the bus: the byte at a place, and the pin. Nothing changes by it.
 ghost use Rattle.std.specs.Prelude.{◌≡◌};
-ghost use Rattle.x1226.specs.Memories.{Ready};
-ghost use Rattle.x1226.specs.Service.{alarm_interrupts, byte_shown, interrupt_byte, low_while, pin_by, pin_shown, shown};
+ghost use Rattle.x1226.specs.Service.{alarm_interrupts, interrupt_read, low_while, pin, pin_by, show};
 
-use crate::reads::stored_byte;
 use crate::state::State;
 use crate::timer::SECOND;
 use chip::calls::Supply;
+use chip::counter::Address;
 use chip::pins::Pin;
-use chip::places::place_of;
 use chip::refusals::Refusal;
-use chip::slaves::Area;
 use memory::{Memory, PLACES};
 
 // The bytes of the clock, shown after the stored ones.
@@ -27,12 +24,13 @@ const AL1E: u8 = 0x40;
 
 const AL0E: u8 = 0x20;
 
-// The byte stored for INT.
-fn interrupt_byte<M: Memory>(memory: &M) -> u8
-    requires { Ready (M.holds memory.now) }
-    ensures { result ≡ interrupt_byte (M.holds memory.now) }
+// The byte stored for INT; an unfit memory is refused.
+fn interrupt_byte<M: Memory>(memory: &M) -> Result<u8, Refusal>
+    ensures { result ≡ interrupt_read (M.holds memory.now) }
 {
-    stored_byte(memory, place_of(Area::Registers, INT))
+    memory
+        .read(Address::register(INT).place())
+        .map_err(|_| Refusal::Unfit)
 }
 
 // The pin is low while this holds, else released.
@@ -43,29 +41,23 @@ fn low_while(condition: bool) -> Pin
 }
 
 impl State {
-    // The byte at a place: the memory's, then the clock's and status as they stand.
-    fn byte_shown<M: Memory>(&self, memory: &M, place: usize) -> u8
-        requires { Ready (M.holds memory.now) }
-        ensures { result ≡ byte_shown self.now (M.holds memory.now) place }
+    // The byte at a place: the memory's, then the clock's and status as they stand; a place above that of status is refused.
+    pub fn show<M: Memory>(&self, memory: &M, place: u16) -> Result<u8, Refusal>
+        ensures { result ≡ show self.now (M.holds memory.now) place }
     {
-        if place < PLACES {
-            stored_byte(memory, place)
-        } else if place < STATUS_PLACE {
-            self.timer.clock.byte(place - PLACES)
+        if !memory.is_fit() {
+            return Err(Refusal::Unfit);
+        }
+        let at = usize::from(place);
+        if at < PLACES {
+            memory.read(at).map_err(|_| Refusal::Unfit)
+        } else if at < STATUS_PLACE {
+            Ok(self.timer.clock.byte(at - PLACES))
+        } else if at == STATUS_PLACE {
+            Ok(self.status())
         } else {
-            self.status()
+            Err(Refusal::BadPlace { place })
         }
-    }
-
-    // The byte at a place up to that of status; a place above it is refused.
-    pub fn shown<M: Memory>(&self, memory: &M, place: u16) -> Result<u8, Refusal>
-        requires { Ready (M.holds memory.now) }
-        ensures { result ≡ shown self.now (M.holds memory.now) place }
-    {
-        if place as usize > STATUS_PLACE {
-            return Err(Refusal::BadPlace { place });
-        }
-        Ok(self.byte_shown(memory, place as usize))
     }
 
     // Whether an alarm flag is on that INT lets through to the pin.
@@ -88,13 +80,13 @@ impl State {
     }
 
     // The pin as it stands: by INT while supplied, else released.
-    pub fn pin_shown<M: Memory>(&self, memory: &M) -> Pin
-        requires { Ready (M.holds memory.now) }
-        ensures { result ≡ pin_shown self.now (M.holds memory.now) }
+    pub fn pin<M: Memory>(&self, memory: &M) -> Result<Pin, Refusal>
+        ensures { result ≡ pin self.now (M.holds memory.now) }
     {
+        let int = interrupt_byte(memory)?;
         match self.supply {
-            Supply::Off => Pin::Released,
-            Supply::Main | Supply::Battery => self.pin_by(interrupt_byte(memory)),
+            Supply::Off => Ok(Pin::Released),
+            Supply::Main | Supply::Battery => Ok(self.pin_by(int)),
         }
     }
 }

@@ -6,7 +6,10 @@ ghost use Rattle.x1226.specs.Store.{staged_from, sent_to, clock_joined};
 
 use crate::state::{STAGED, Staging};
 use calendar::clock::Clock;
-use chip::registers;
+use std::array;
+
+// The place staged for the first of the clock's registers.
+const CLOCK: usize = 0x30;
 
 impl Staging {
     // No byte staged yet, of a write whose first data byte goes to an address.
@@ -30,38 +33,23 @@ impl Staging {
     pub fn count(&self) -> u32
         ensures { result ≡ count_held self.now.held 64 }
     {
-        let mut count = 0;
-        for k in 0..STAGED {
-            let held = self.held[k];
-            if held.is_some() {
-                count += 1;
-            }
-        }
-        count
+        self.held.iter().filter(|held| held.is_some()).count() as u32
     }
 
     // The byte staged for a register.
-    pub fn sent_to(&self, register: u8) -> Option<u8>
+    pub fn sent_to(&self, register: u16) -> Option<u8>
         requires { register < 64 }
         ensures { result ≡ sent_to self.now register }
     {
-        self.held[register as usize]
+        self.held[usize::from(register)]
     }
 
     // The clock bytes that the staged ones make of the clock copied.
     pub fn joined_to(&self, copied: Clock) -> Clock
         ensures { result ≡ clock_joined copied self.now }
     {
-        Clock {
-            seconds: self.sent_to(registers::SECONDS).unwrap_or(copied.seconds),
-            minutes: self.sent_to(registers::MINUTES).unwrap_or(copied.minutes),
-            hours: self.sent_to(registers::HOURS).unwrap_or(copied.hours),
-            date: self.sent_to(registers::DATE).unwrap_or(copied.date),
-            month: self.sent_to(registers::MONTH).unwrap_or(copied.month),
-            year: self.sent_to(registers::YEAR).unwrap_or(copied.year),
-            weekday: self.sent_to(registers::WEEKDAY).unwrap_or(copied.weekday),
-            century: self.sent_to(registers::CENTURY).unwrap_or(copied.century),
-        }
+        let bytes: [u8; 8] = copied.into();
+        Clock::from(array::from_fn(|k| { self.held[CLOCK + k].unwrap_or(bytes[k]) }))
     }
 }
 

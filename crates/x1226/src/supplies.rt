@@ -22,7 +22,7 @@ impl State {
             high: 0,
             counter: 0,
             staging: Staging::nothing(),
-            latches: Latches::off(),
+            latches: Latches::OFF,
             cycle: 0,
             timer: Timer {
                 rtcf: true,
@@ -30,11 +30,11 @@ impl State {
                 clock: Clock::start(),
                 waiting: None,
             },
-            flags: Alarms::none(),
+            flags: Alarms::NONE,
             copies: Copies {
                 clock: Clock::start(),
                 status: 0,
-                matched: Alarms::none(),
+                matched: Alarms::NONE,
             },
         }
     }
@@ -43,7 +43,7 @@ impl State {
     fn leave_main(&mut self)
         ensures { self.new ≡ off_main self.old }
     {
-        self.latches = Latches::off();
+        self.latches = Latches::OFF;
         self.phase = Phase::Deaf;
         self.staging = Staging::nothing();
         self.cycle = 0;

@@ -43,12 +43,7 @@ impl Timer {
         ensures { self.new ≡ marked self.old }
     {
         self.divider = self.divided();
-        let waiting = self.waiting;
-        self.clock = match waiting {
-            Some(asked) => asked,
-            None => self.clock.next(),
-        };
-        self.waiting = None;
+        self.clock = self.waiting.take().unwrap_or_else(|| self.clock.next());
     }
 
     // A tick that is no mark.

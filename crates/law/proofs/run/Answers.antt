@@ -1,5 +1,5 @@
--- The law of a run, from what `is_fit` and `replay` promise.
-use Rattle.std.proofs.Common.{ℕ, ◌≤◌, min, length, ◌∙◌, arith}
+-- The law of a run, from what `replay` promises and a fit memory is.
+use Rattle.std.proofs.Common.{ℕ, ◌≤◌, min, length, arith}
 use Rattle.law.proofs.Whole.{replay_lawful, replay_unmoved}
 use Rattle.law.proofs.run.Goals as goal
 
@@ -11,7 +11,7 @@ returns g c =
       lawful = λ fit.
           replay_lawful n (g.M.Memory.holds c.args.memory.now) c.args.calls.now c.args.rows.now c.replay.new.rows
           c.replay.result.state (g.M.Memory.holds c.replay.new.memory) few fit
-          (c.is_fit.ensures.whole (c.is_fit.ensures.answer ∙ fit)).sized c.replay.ensures;
+          (g.met.M.Memory.whole c.args.memory.now fit).sized c.replay.ensures;
       replayed = c.replay.ensures;
       unmoved = λ unfit.
           replay_unmoved n (g.M.Memory.holds c.args.memory.now) c.args.calls.now c.args.rows.now c.replay.new.rows

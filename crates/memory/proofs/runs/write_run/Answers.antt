@@ -1,23 +1,14 @@
-use Rattle.std.proofs.Common.{◌+◌, get_or, refl, ap, ◌∙◌, arith}
+use Rattle.std.proofs.Common.{◌+◌, length, get_or, ap, ◌∙◌}
 use Rattle.memory.specs.Model.{written}
-use Rattle.memory.proofs.RunLaws.{partial_none, partial_more, partial_all}
+use Rattle.memory.proofs.RunLaws.{store_passed, partial_more}
 use Rattle.memory.proofs.runs.write_run.Goals as goal
-
-pub loop-i-init : goal.loop-i-init
-loop-i-init g c = partial_none (g.M.Memory.holds c.args.memory.now) c.args.place c.args.bytes.now
 
 pub loop-i-preserved : goal.loop-i-preserved
 loop-i-preserved g c =
-    let i = c.loop-i.i in
-    let byte = get_or c.args.bytes.now i 0 in
+    let m = g.M.Memory.holds c.args.memory.now in
+    let place = c.args.place in
+    let bytes = c.args.bytes.now in
+    let whole = g.met.M.Memory.whole c.args.memory.now (store_passed m place (length bytes) c.requires).0 in
     c.write.ensures.after
-    ∙ ap (λ m. written m (c.args.place + i) byte) c.loop-i.invariant
-    ∙ partial_more (g.M.Memory.holds c.args.memory.now) c.args.place c.args.bytes.now i
-    c.requires.fit c.requires.whole c.requires.room c.requires.life c.loop-i-test.true
-
-pub returns : goal.returns
-returns g c =
-    record {
-      answer = refl;
-      after = c.loop-i.invariant ∙ partial_all (g.M.Memory.holds c.args.memory.now) c.args.place c.args.bytes.now c.loop-i.i (omega arith);
-    }
+    ∙ ap (λ m. written m (place + c.loop-i.i) (get_or bytes c.loop-i.i 0)) c.loop-i.invariant
+    ∙ partial_more m place bytes c.loop-i.i whole c.requires c.loop-i-test.true

@@ -1,6 +1,8 @@
-use Rattle.std.proofs.Common.{[], arith}
+use Rattle.std.proofs.Common.{[], rules}
 use Rattle.memory.proofs.ByteLaws.{bytes_from}
 use Rattle.memory.proofs.words.factory_bytes.Goals as goal
 
 pub returns : goal.returns
-returns c = bytes_from c.loop-place.bytes [] c.loop-place.invariant.0 (λ k low. c.loop-place.invariant.1 k (omega arith))
+returns c =
+    let items = c.from_fn.ensures.items in
+    bytes_from c.from_fn.result [] items.long (λ k low. let made = items.at k 0 low in search rules)

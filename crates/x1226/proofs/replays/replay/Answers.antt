@@ -1,14 +1,37 @@
-use Rattle.std.proofs.Common.{arith}
-use Rattle.x1226.proofs.Replaying.{replayed_none, replayed_more}
+use Rattle.std.proofs.Common.{◌≡◌, min, length, sym, refl, ap, ◌∙◌, subst, arith}
+use Rattle.x1226.specs.Replay.{Replayed}
+use Rattle.x1226.specs.Step.{told, worked}
+use Rattle.x1226.proofs.Replaying.{replayed_none, replayed_more, next_of}
 use Rattle.x1226.proofs.replays.replay.Goals as goal
 
-pub loop-k-init : goal.loop-k-init
-loop-k-init g c =
-    replayed_none (g.M.Memory.holds c.args.memory.now) c.args.calls.now c.args.rows.now c.make-module.result.state c.make-module.ensures
+pub loop-row-init : goal.loop-row-init
+loop-row-init g c = (
+  replayed_none (g.M.Memory.holds c.args.memory.now) c.args.calls.now c.args.rows.now c.make-module.result.state c.make-module.ensures,
+  (refl, omega arith),
+)
 
-pub loop-k-preserved : goal.loop-k-preserved
-loop-k-preserved g c =
+pub loop-row-preserved : goal.loop-row-preserved
+loop-row-preserved g c =
     let holds = g.M.Memory.holds in
-    replayed_more c.loop-k.k (holds c.args.memory.now) c.args.calls.now c.args.rows.now c.loop-k.rows
-    c.loop-k.module.state c.work.new.self.state (holds c.loop-k.memory) (holds c.work.new.memory) c.work.result
-    (omega arith) (omega arith) c.work.ensures.state c.work.ensures.mem c.work.ensures.answer c.loop-k.invariant
+    let calls = c.args.calls.now in
+    let k = c.loop-row.row-index in
+    let s = c.loop-row.module.state in
+    let m = holds c.loop-row.memory in
+    let next = next_of calls k c.in-Some.call.now c.in-Some.later.now (sym c.loop-row.invariant.1.0 ∙ c.in-Some.ensures.cases.0) in
+    let same = ap (λ call. worked call s m) next.call_is in (
+      replayed_more k (holds c.args.memory.now) calls c.args.rows.now c.loop-row.rows
+          s c.work.new.self.state m (holds c.work.new.memory) c.work.result
+          next.below (omega arith)
+          (c.work.ensures.state ∙ ap (λ l. l.state) same) (c.work.ensures.mem ∙ ap (λ l. l.mem) same) (c.work.ensures.answer ∙ ap told same)
+          c.loop-row.invariant.0,
+      (next.later_is, omega (arith, next.below)),
+    )
+
+pub returns-after-loop-row : goal.returns-after-loop-row
+returns-after-loop-row g c =
+    let holds = g.M.Memory.holds in
+    let was = holds c.args.memory.now in
+    let k = c.loop-row.row-index in
+    let all : k ≡ min (length c.args.calls.now) (length c.args.rows.now) = omega (arith, c.loop-row.invariant.1.1) in
+    subst (λ n. Replayed n was c.args.calls.now c.args.rows.now c.loop-row.rows c.loop-row.module.state (holds c.loop-row.memory))
+    all c.loop-row.invariant.0

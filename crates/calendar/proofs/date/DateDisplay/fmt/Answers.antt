@@ -22,5 +22,5 @@ returns-in-TwelveHour-clause-writes g c plain ok =
     let minute = figures_are date.time.minute _ c.of-minute.result refl c.of-minute.ensures in
     let second = figures_are date.time.second _ c.of-second.result refl c.of-second.ensures in
     subst (λ (text : List ℕ). HasWritten g.W.Write.write_str_gives c.args.f.now text c.write-in-TwelveHour.new.self)
-    (text_12 date _ _ _ _ c.in-TwelveHour.is (hour ∙ ap two c.twelve_hour.ensures) minute second c.half_of-half.ensures)
+    (text_12 date _ _ _ _ c.in-TwelveHour.is (hour ∙ ap two c.twelve_hour.ensures) minute second c.half-half.ensures)
     (c.write-in-TwelveHour.ensures.writes plain ok)

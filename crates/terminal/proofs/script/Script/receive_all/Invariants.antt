@@ -1,6 +1,6 @@
-use Rattle.std.proofs.Common.{◌≡◌, ◌-◌, ◌++◌, vec_items}
+use Rattle.std.proofs.Common.{◌≡◌, ◌-◌, ◌++◌}
 use Rattle.terminal.specs.Calls.{all_received}
 use Rattle.terminal.proofs.script.Script.receive_all.Given as goal
 
 abbrev pub invariant-loop-k : goal.invariant-loop-k
-invariant-loop-k l = vec_items l.self.calls ++ all_received (l.count - l._k) ≡ vec_items l.initial.self.calls ++ all_received (l.count - 1)
+invariant-loop-k l = l.self ++ all_received (l.count - l._k) ≡ l.initial.self ++ all_received (l.count - 1)

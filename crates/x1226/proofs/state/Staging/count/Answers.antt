@@ -1,9 +1,9 @@
-use Rattle.std.proofs.Common.{arith, rules}
-use Rattle.x1226.proofs.Staged.{count_none, count_more}
+use Rattle.std.proofs.Common.{◌≡◌, length, rules}
+use Rattle.x1226.proofs.Staged.{count_held_all}
 use Rattle.x1226.proofs.state.Staging.count.Goals as goal
 
-pub loop-k-init : goal.loop-k-init
-loop-k-init c = (count_none c.args.self.now.held, omega arith)
-
-pub loop-k-preserved : goal.loop-k-preserved
-loop-k-preserved c = search (rules, count_more)
+pub returns : goal.returns
+returns c =
+    let sized : length c.args.self.now.held ≡ 64 = search rules in
+    let all = count_held_all c.args.self.now.held sized in
+    search (rules, all)

@@ -1,9 +1,0 @@
-use Rattle.std.proofs.Common.{rules}
-use Rattle.x1226.proofs.Staged.{stored_none, stored_more}
-use Rattle.x1226.proofs.store.store_all.Goals as goal
-
-pub loop-k-init : goal.loop-k-init
-loop-k-init g c = stored_none _ _ _ _
-
-pub loop-k-preserved : goal.loop-k-preserved
-loop-k-preserved g c = search (rules, stored_more)
