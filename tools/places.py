@@ -110,7 +110,7 @@ def facts(crates):
         for n, name, head, _ in functions(path, lines):
             place = (path, n, name)
             for line in head:
-                if re.match(r"\s*requires", line):
+                if re.match(r"\s*(requires|ensures)", line):
                     clauses[(path.parts[-3], clause_key(line))].add(place)
             text = " ".join(part.strip() for part in head if not re.match(r"\s*(requires|ensures)", part))
             params = re.findall(r"(\w+): ([^,()]+?)(?=[,)])", text)
