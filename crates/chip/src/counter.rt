@@ -3,7 +3,6 @@ ghost use Rattle.std.specs.Prelude.{◌≡◌, ◌%◌};
 ghost use Rattle.chip.specs.Counter.{address_in, next_written, next_read, at_status, takes_data};
 ghost use Rattle.chip.specs.Registers.{section_of};
 ghost use Rattle.chip.specs.Sizes.{register_space};
-ghost use Rattle.chip.specs.declared.slaves.Area.TheVariants.{Registers};
 
 use crate::pages::{ARRAY, next_in_array, next_in_page};
 use crate::registers::{REGISTER_SPACE, Section, next_register};
@@ -17,6 +16,14 @@ pub struct Address {
 }
 
 impl Area {
+    // An address of this area.
+    pub fn at(self, offset: u16) -> Address
+        ensures area { result.area ≡ self }
+        ensures offset { result.offset ≡ offset }
+    {
+        Address { area: self, offset }
+    }
+
     // The address that two bytes name: modulo 512 in the array, modulo 64 among the registers.
     pub fn address(self, high: u8, low: u8) -> u16
         ensures { result ≡ address_in self high low }
@@ -30,17 +37,6 @@ impl Area {
 }
 
 impl Address {
-    // The address of a register.
-    pub fn register(register: u16) -> Address
-        ensures area { result.area ≡ Registers }
-        ensures offset { result.offset ≡ register }
-    {
-        Address {
-            area: Area::Registers,
-            offset: register,
-        }
-    }
-
     // The section of the register that this address names.
     fn section(self) -> Option<Section>
         ensures { result ≡ section_of (self.offset % register_space) }

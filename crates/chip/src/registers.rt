@@ -4,6 +4,7 @@ ghost use Rattle.chip.specs.declared.slaves.Area.TheVariants.{Registers};
 ghost use Rattle.chip.specs.Registers.{section_of, first_of, length_of, next_in, next_register, masked};
 
 use crate::counter::Address;
+use crate::slaves::Area;
 
 // The register addresses, most of them empty.
 pub const REGISTER_SPACE: u16 = 64;
@@ -24,7 +25,7 @@ pub enum Section {
 }
 
 impl Section {
-    // The section that a register address lies in; none at an empty address.
+    // The section that a register address lies in; none at an empty address. No TryFrom: the address is not in it.
     pub fn of(register: u16) -> Option<Section>
         ensures { result ≡ section_of register }
     {
@@ -56,7 +57,7 @@ impl Section {
         ensures area { result.area ≡ Registers }
         ensures offset { result.offset ≡ first_of self }
     {
-        Address::register(self.first())
+        Area::Registers.at(self.first())
     }
 
     // The number of its registers.

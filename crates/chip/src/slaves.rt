@@ -66,10 +66,7 @@ impl Slave {
     pub fn is_read(self) -> bool
         ensures { result ≡ reads self }
     {
-        match self {
-            Slave::ArrayRead | Slave::RegisterRead => true,
-            Slave::ArrayWrite | Slave::RegisterWrite => false,
-        }
+        matches!(self, Slave::ArrayRead | Slave::RegisterRead)
     }
 }
 

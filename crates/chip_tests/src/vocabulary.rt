@@ -1,7 +1,6 @@
 // The tables and small rules of the chip, by examples.
 use chip::bits::{is_zero_bit, shifted};
 use chip::calls::{Call, Event, Supply};
-use chip::counter::Address;
 use chip::locks::is_locked;
 use chip::pins::Pin;
 use chip::refusals::{Line, Refusal};
@@ -56,31 +55,23 @@ fn calls_and_edges(rt: HostRuntime) {
     );
 }
 
-// An address of the array.
-fn array(offset: u16) -> Address {
-    Address {
-        area: Area::Array,
-        offset,
-    }
-}
-
 #[test]
 fn addresses_and_places(rt: HostRuntime) {
     assert_eq!(rt; Area::Array.address(0x03, 0xFF), 0x1FF);
     assert_eq!(rt; Area::Registers.address(0x00, 0xFF), 0x3F);
-    assert_eq!(rt; array(0x3F).next_written(), 0x00);
-    assert_eq!(rt; array(0x3F).next_read(), 0x40);
-    assert_eq!(rt; array(0x1FF).next_read(), 0x000);
-    assert_eq!(rt; Address::register(0x13).next_written(), 0x10);
-    assert_eq!(rt; Address::register(0x37).next_read(), 0x30);
-    assert_eq!(rt; Address::register(0xFF).next_read(), 0xFF);
-    assert_eq!(rt; Address::register(0x20).next_read(), 0x20);
-    assert!(rt; Address::register(0xFF).is_status());
-    assert!(rt; !array(0x3F).is_status());
-    assert_eq!(rt; Address::register(0x13).place(), 531);
-    assert_eq!(rt; Address::register(0x11).stored_as(0xFF), 0xF8);
-    assert_eq!(rt; array(0x11).stored_as(0xFF), 0xFF);
-    assert_eq!(rt; Section::Clock.address(), Address::register(0x30));
+    assert_eq!(rt; Area::Array.at(0x3F).next_written(), 0x00);
+    assert_eq!(rt; Area::Array.at(0x3F).next_read(), 0x40);
+    assert_eq!(rt; Area::Array.at(0x1FF).next_read(), 0x000);
+    assert_eq!(rt; Area::Registers.at(0x13).next_written(), 0x10);
+    assert_eq!(rt; Area::Registers.at(0x37).next_read(), 0x30);
+    assert_eq!(rt; Area::Registers.at(0xFF).next_read(), 0xFF);
+    assert_eq!(rt; Area::Registers.at(0x20).next_read(), 0x20);
+    assert!(rt; Area::Registers.at(0xFF).is_status());
+    assert!(rt; !Area::Array.at(0x3F).is_status());
+    assert_eq!(rt; Area::Registers.at(0x13).place(), 531);
+    assert_eq!(rt; Area::Registers.at(0x11).stored_as(0xFF), 0xF8);
+    assert_eq!(rt; Area::Array.at(0x11).stored_as(0xFF), 0xFF);
+    assert_eq!(rt; Section::Clock.address(), Area::Registers.at(0x30));
 }
 
 #[test]
@@ -97,10 +88,10 @@ fn sections_and_slaves(rt: HostRuntime) {
         Slave::RegisterRead
     );
     assert_eq!(rt; u8::from(Slave::ArrayWrite), 0xAE);
-    assert!(rt; Address::register(0x3F).takes_data(false, true));
-    assert!(rt; !Address::register(0x3F).takes_data(true, false));
-    assert!(rt; !Address::register(0x20).takes_data(true, true));
-    assert!(rt; !array(0).takes_data(false, true));
+    assert!(rt; Area::Registers.at(0x3F).takes_data(false, true));
+    assert!(rt; !Area::Registers.at(0x3F).takes_data(true, false));
+    assert!(rt; !Area::Registers.at(0x20).takes_data(true, true));
+    assert!(rt; !Area::Array.at(0).takes_data(false, true));
     assert!(rt; is_zero_bit(0x7F, 0));
     assert!(rt; !is_zero_bit(0x01, 7));
     assert_eq!(rt; shifted(0xFF, false), 0xFE);

@@ -104,6 +104,8 @@ pub fn tare<M: Memory>(memory: &M, truck: u16) -> Result<Tare, LedgerError>
     record_at(memory, tare_place(truck))?.ok_or(LedgerError::NoTare)
 }
 
+// A memory is lent to each call, as to the chip's, and a ticket is any number: together they would make no value.
+
 /// The weighing that a ticket holds, if it holds one that is not yet billed.
 pub fn weighing<M: Memory>(memory: &M, ticket: u16) -> Result<Option<Weighing>, LedgerError>
     ensures { result ≡ weighing_answer (M.holds memory.now) ticket }

@@ -42,6 +42,7 @@ pub trait Keeper {
 }
 
 /// A memory over a keeper. Whether it is fit is decided once, where it is put together.
+// A flag beside the keeper and no enum, since what an unfit one keeps is told too, as the words used.
 #[derive(Drop)]
 pub struct Checked<K: Keeper> {
     pub(crate) keeper: K,

@@ -37,6 +37,7 @@ pub trait Memory {
         ensures { result ≡ claim (holds self.now) n };
 
     /// Puts a byte at a place, and spends one write of the life.
+    // Place and byte are two numbers, as boards have them; only a list of writes has a struct of the two.
     fn write(&mut self, place: usize, byte: u8) -> Result<(), Refusal>
         ensures answer { result ≡ write (holds self.old) place }
         ensures after { holds self.new ≡ written (holds self.old) place byte };

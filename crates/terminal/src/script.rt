@@ -83,6 +83,8 @@ impl Script {
         }])
     }
 
+    // The master's verbs follow. Each adds a list of its own: one verb that is told the list would be `add` again.
+
     // A start, from both levels high.
     pub fn start(&mut self) -> Result<(), AllocError>
         ensures { self.new ≡ added result self.old start_calls }
@@ -129,7 +131,7 @@ impl Script {
 
 ghost use Rattle.chip.specs.declared.calls.Call.TheVariants.{Level};
 
-// SCL low, with a level on SDA.
+// SCL low, with a level on SDA. Two names for the two levels of SCL, since they read as the pulses do.
 fn low(sda: u16) -> Call
     ensures { result ≡ Level 0 sda }
 {

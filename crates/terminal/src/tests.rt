@@ -3,7 +3,6 @@ use crate::frames::Latch;
 use crate::rows::{Rows, read_bytes, write_outcome};
 use crate::script::Script;
 use chip::calls::Supply;
-use chip::counter::Address;
 use chip::slaves::Area;
 use memory::{Image, Memory, factory_bytes};
 use std::test::Fail;
@@ -12,10 +11,7 @@ use std::test::Fail;
 #[test]
 fn stores_and_reads(rt: HostRuntime) -> Result<(), Fail> {
     let mut script = Script::new(rt.alloc());
-    let to = Address {
-        area: Area::Array,
-        offset: 0x40,
-    };
+    let to = Area::Array.at(0x40);
     script.supply(Supply::Main)?;
     let silent = script.mark();
     script.write(to, &[0x5A])?;

@@ -1,5 +1,5 @@
 // Where the ledger's records lie in the array, and the bill of what is read there.
-ghost use Rattle.std.specs.Prelude.{◌≡◌};
+ghost use Rattle.std.specs.Prelude.{◌≡◌, ◌^◌, ◌<◌};
 ghost use Rattle.chip.specs.declared.slaves.Area.TheVariants.{Array};
 ghost use Rattle.ledger.specs.Layout.{tare_place, weighing_place};
 ghost use Rattle.terminal.specs.Bills.{bill_of};
@@ -8,15 +8,21 @@ use chip::counter::Address;
 use chip::slaves::Area;
 use ledger::{Invoice, LedgerError, Record, TARE_SIZE, Tare, WEIGHING_SIZE, Weighing};
 
+// The address of the array that a place has.
+fn array_address(place: usize) -> Address
+    requires { place < 2 ^ 16 }
+    ensures area { result.area ≡ Array }
+    ensures offset { result.offset ≡ place }
+{
+    Area::Array.at(place as u16)
+}
+
 // The address of a truck's tare.
 pub fn tare_address(truck: u8) -> Address
     ensures area { result.area ≡ Array }
     ensures offset { result.offset ≡ tare_place truck }
 {
-    Address {
-        area: Area::Array,
-        offset: ledger::tare_place(u16::from(truck)) as u16,
-    }
+    array_address(ledger::tare_place(u16::from(truck)))
 }
 
 // The address of a ticket's weighing: behind sixteen tares.
@@ -24,10 +30,7 @@ pub fn weighing_address(ticket: u8) -> Address
     ensures area { result.area ≡ Array }
     ensures offset { result.offset ≡ weighing_place ticket }
 {
-    Address {
-        area: Area::Array,
-        offset: ledger::weighing_place(u16::from(ticket)) as u16,
-    }
+    array_address(ledger::weighing_place(u16::from(ticket)))
 }
 
 // The bill of a weighing by a tare, from the bytes of both.

@@ -315,6 +315,8 @@ fn bytes_of<const N: usize>(rows: &[Answer]) -> [u8; N] {
     bytes
 }
 
+// What prints takes the narrowest handle of the runtime beside the rows that it shows; the two make no value.
+
 /// Prints what became of a write.
 fn show_write(rt: &impl Print, rows: &[Answer], count: u16) -> io::Result<()> {
     match write_outcome(rows, count) {

@@ -15,10 +15,7 @@ impl State {
         ensures area { result.area ≡ self.now.area }
         ensures offset { result.offset ≡ self.now.counter }
     {
-        Address {
-            area: self.area,
-            offset: self.counter,
-        }
+        self.area.at(self.counter)
     }
 
     // A start opens a frame with nothing staged.
@@ -29,18 +26,17 @@ impl State {
         self.phase = Phase::awaiting(0);
     }
 
-    // Whether the byte just received is acknowledged.
+    // Whether the byte just received is acknowledged. Stage and byte are plain numbers, as a rule has the phase carry them.
     fn takes(&self, stage: u8, byte: u8) -> bool
         ensures { result ≡ takes self.now stage byte }
     {
         match stage {
             0 => Slave::named(byte).is_some(),
             1 | 2 => true,
-            _ => Address {
-                area: self.area,
-                offset: self.staging.address,
-            }
-            .takes_data(self.latches.wel, stage == 3),
+            _ => self
+                .area
+                .at(self.staging.address)
+                .takes_data(self.latches.wel, stage == 3),
         }
     }
 

@@ -6,7 +6,6 @@ ghost use Rattle.chip.specs.Registers.{section_of};
 use crate::fit::Fit;
 use crate::state::State;
 use chip::calls::Supply;
-use chip::counter::Address;
 use chip::registers::{REGISTER_SPACE, Section};
 use chip::slaves::Area;
 use chip::status::Status;
@@ -35,7 +34,7 @@ impl State {
         match Section::of(register) {
             None => 0,
             Some(Section::Alarm0 | Section::Alarm1 | Section::Control) => {
-                fit.byte(Address::register(register).place())
+                fit.byte(Area::Registers.at(register).place())
             }
             Some(Section::Clock) => {
                 let k = register.saturating_sub(Section::Clock.first());

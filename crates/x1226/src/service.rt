@@ -5,9 +5,9 @@ ghost use Rattle.x1226.specs.Service.{alarm_interrupts, interrupt_read, low_whil
 use crate::state::State;
 use crate::timer::SECOND;
 use chip::calls::Supply;
-use chip::counter::Address;
 use chip::pins::Pin;
 use chip::refusals::Refusal;
+use chip::slaves::Area;
 use memory::{Memory, PLACES};
 
 // The bytes of the clock, shown after the stored ones.
@@ -29,7 +29,7 @@ fn interrupt_byte<M: Memory>(memory: &M) -> Result<u8, Refusal>
     ensures { result ≡ interrupt_read (M.holds memory.now) }
 {
     memory
-        .read(Address::register(INT).place())
+        .read(Area::Registers.at(INT).place())
         .map_err(|_| Refusal::Unfit)
 }
 

@@ -10,7 +10,7 @@ pub enum Phase {
     // Waiting for a start.
     Deaf,
     // Taking the bits of a byte. `stage` counts the bytes acknowledged in the frame: 0 the slave byte comes, 1 and 2 an address byte,
-    // 3 the first data byte, 4 a further one.
+    // 3 the first data byte, 4 a further one. By a rule a phase carries plain numbers, so stages are no enum.
     Receiving { stage: u8, bits: u8, shift: u8 },
     // Pulling SDA for the byte just taken.
     Acknowledging { stage: u8, byte: u8 },

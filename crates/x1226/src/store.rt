@@ -22,6 +22,7 @@ fn lock_byte<M: Memory>(fit: &Fit<M>) -> u8
     fit.byte(Section::Control.address().place())
 }
 
+// The area comes beside the record, as the state keeps it: a struct of the two would be made for these alone.
 impl Staging {
     // The address that staged place `k` stands for.
     fn address_staged(&self, area: Area, k: u16) -> Address
@@ -33,7 +34,7 @@ impl Staging {
             Area::Array => page_first(self.address) + k,
             Area::Registers => k,
         };
-        Address { area, offset }
+        area.at(offset)
     }
 
     // Stores what is held in staged place `k`, under the mask where it is a register's.
