@@ -68,7 +68,7 @@ impl Clock {
         century: 0x20,
     };
 
-    // The start date, which exists.
+    // The start date, which exists. A function beside the constant, since a constant has no contract that says so.
     #[tactic(auto, unfolding(crate::specs::Dates::first_bad))]
     pub fn start() -> Clock
         ensures value { result ≡ start_date }

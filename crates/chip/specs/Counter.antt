@@ -1,5 +1,6 @@
 -- The address counter: the addresses that it takes and how it moves, and which data bytes are taken where it stands.
 use Rattle.std.specs.Prelude.{ℕ, ◌+◌, ◌*◌, ◌%◌, Bool, true, false, Some, None, Option}
+use Rattle.chip.specs.declared.counter.Address.{Address}
 use Rattle.chip.specs.declared.registers.Section.{Section}
 use Rattle.chip.specs.declared.registers.Section.TheVariants.{Alarm0, Alarm1, Control, Clock, Status}
 use Rattle.chip.specs.declared.slaves.Area.{Area}
@@ -7,6 +8,10 @@ use Rattle.chip.specs.declared.slaves.Area.TheVariants.{Array, Registers}
 use Rattle.chip.specs.Sizes.{array_length, register_space}
 use Rattle.chip.specs.Pages.{next_in_page, next_in_array}
 use Rattle.chip.specs.Registers.{section_of, next_in, next_register}
+
+-- An address of an area.
+abbrev pub address_at : Area → ℕ → Address
+address_at area offset = record { area = area; offset = offset }
 
 -- How many addresses an area has.
 abbrev pub room_of : Area → ℕ

@@ -3,6 +3,7 @@ ghost use Rattle.std.specs.Prelude.{◌≡◌};
 ghost use Rattle.chip.specs.Bits.{weight, is_zero_bit, shifted};
 
 // What bit `index` of a byte is worth, counted from the highest; past the eighth bit that of the lowest, since any index may be asked.
+// A table, as its rule is one: a shift would have to say the same of the indices above 7.
 fn weight(index: u8) -> u8
     ensures { result ≡ weight index }
 {

@@ -8,9 +8,9 @@ use crate::wires::Levels;
 // Where the module's supply comes from; a board names it by a number.
 #[derive(Clone, Copy, PartialEq, Eq, Debug)]
 pub enum Supply {
-    Off,
-    Main,
-    Battery,
+    Off = 0,
+    Main = 1,
+    Battery = 2,
 }
 
 // A call with the numbers that the board passed.
@@ -93,10 +93,6 @@ impl From<Supply> for u16 {
     ghost from_gives = { λ supply which. which ≡ supply_number supply };
 
     fn from(supply: Supply) -> u16 {
-        match supply {
-            Supply::Off => 0,
-            Supply::Main => 1,
-            Supply::Battery => 2,
-        }
+        supply as u16
     }
 }

@@ -1,6 +1,6 @@
 // The address counter: the addresses that it takes and how it moves, and which data bytes are taken where it stands.
 ghost use Rattle.std.specs.Prelude.{◌≡◌, ◌%◌};
-ghost use Rattle.chip.specs.Counter.{address_in, next_written, next_read, at_status, takes_data};
+ghost use Rattle.chip.specs.Counter.{address_at, address_in, next_written, next_read, at_status, takes_data};
 ghost use Rattle.chip.specs.Registers.{section_of};
 ghost use Rattle.chip.specs.Sizes.{register_space};
 
@@ -18,20 +18,19 @@ pub struct Address {
 impl Area {
     // An address of this area.
     pub fn at(self, offset: u16) -> Address
-        ensures area { result.area ≡ self }
-        ensures offset { result.offset ≡ offset }
+        ensures { result ≡ address_at self offset }
     {
         Address { area: self, offset }
     }
 
     // The address that two bytes name: modulo 512 in the array, modulo 64 among the registers.
-    pub fn address(self, high: u8, low: u8) -> u16
-        ensures { result ≡ address_in self high low }
+    pub fn address(self, high: u8, low: u8) -> Address
+        ensures { result ≡ address_at self (address_in self high low) }
     {
-        let both = u16::from(high) * 256 + u16::from(low);
+        let both = u16::from_be_bytes([high, low]);
         match self {
-            Area::Array => both % ARRAY,
-            Area::Registers => both % REGISTER_SPACE,
+            Area::Array => self.at(both % ARRAY),
+            Area::Registers => self.at(both % REGISTER_SPACE),
         }
     }
 }

@@ -5,10 +5,10 @@ ghost use Rattle.chip.specs.Pins.{pin_number};
 // What the pin does.
 #[derive(Clone, Copy, PartialEq, Eq, Debug)]
 pub enum Pin {
-    Low,
-    Released,
+    Low = 0,
+    Released = 1,
     // The crystal's own 32,768 Hz.
-    Crystal,
+    Crystal = 2,
 }
 
 // The number by which a board is told.
@@ -16,10 +16,6 @@ impl From<Pin> for u8 {
     ghost from_gives = { λ pin n. n ≡ pin_number pin };
 
     fn from(pin: Pin) -> u8 {
-        match pin {
-            Pin::Low => 0,
-            Pin::Released => 1,
-            Pin::Crystal => 2,
-        }
+        pin as u8
     }
 }

@@ -7,17 +7,17 @@ use crate::slaves::Area;
 // A wire of the bus.
 #[derive(Clone, Copy, PartialEq, Eq, Debug)]
 pub enum Line {
-    Scl,
-    Sda,
+    Scl = 0,
+    Sda = 1,
 }
 
 // Who has to look into a refusal.
 #[derive(Clone, Copy, PartialEq, Eq, Debug)]
 pub enum Layer {
-    Board,
-    Bus,
-    Memory,
-    Log,
+    Board = 1,
+    Bus = 2,
+    Memory = 3,
+    Log = 4,
 }
 
 // The number by which a report names a layer.
@@ -25,12 +25,7 @@ impl From<Layer> for u8 {
     ghost from_gives = { λ layer n. n ≡ layer_number layer };
 
     fn from(layer: Layer) -> u8 {
-        match layer {
-            Layer::Board => 1,
-            Layer::Bus => 2,
-            Layer::Memory => 3,
-            Layer::Log => 4,
-        }
+        layer as u8
     }
 }
 
@@ -61,7 +56,7 @@ pub enum Refusal {
     LogSize,
 }
 
-// A refusal as it is reported; area, address and life only where a rule names them.
+// A refusal as it is reported, by its number; area, address and life only where a rule names them.
 #[derive(Clone, Copy, PartialEq, Eq, Debug)]
 pub struct Report {
     pub number: u8,
@@ -146,10 +141,7 @@ impl From<Line> for u16 {
     ghost from_gives = { λ line address. address ≡ line_address line };
 
     fn from(line: Line) -> u16 {
-        match line {
-            Line::Scl => 0,
-            Line::Sda => 1,
-        }
+        line as u16
     }
 }
 
@@ -158,9 +150,6 @@ impl From<Area> for u8 {
     ghost from_gives = { λ area n. n ≡ area_number (Some area) };
 
     fn from(area: Area) -> u8 {
-        match area {
-            Area::Array => 1,
-            Area::Registers => 2,
-        }
+        area as u8
     }
 }

@@ -1,10 +1,13 @@
 // The registers: their sections, how an address moves inside one, and what a write may set of each.
 ghost use Rattle.std.specs.Prelude.{◌≡◌, ◌+◌, ◌<◌, ◌≤◌};
+ghost use Rattle.chip.specs.Counter.{address_at};
 ghost use Rattle.chip.specs.declared.slaves.Area.TheVariants.{Registers};
 ghost use Rattle.chip.specs.Registers.{section_of, first_of, length_of, next_in, next_register, masked};
 
 use crate::counter::Address;
+use crate::pages::next_in;
 use crate::slaves::Area;
+use std::ops::Range;
 
 // The register addresses, most of them empty.
 pub const REGISTER_SPACE: u16 = 64;
@@ -39,45 +42,40 @@ impl Section {
         }
     }
 
+    // Its registers.
+    fn registers(self) -> Range<u16>
+        ensures start { result.start ≡ first_of self }
+        ensures end { result.end ≡ first_of self + length_of self }
+    {
+        match self {
+            Section::Alarm0 => 0x00..0x08,
+            Section::Alarm1 => 0x08..0x10,
+            Section::Control => 0x10..0x14,
+            Section::Clock => 0x30..0x38,
+            Section::Status => 0x3F..0x40,
+        }
+    }
+
     // Its first register.
     pub fn first(self) -> u16
         ensures { result ≡ first_of self }
     {
-        match self {
-            Section::Alarm0 => 0x00,
-            Section::Alarm1 => 0x08,
-            Section::Control => 0x10,
-            Section::Clock => 0x30,
-            Section::Status => 0x3F,
-        }
+        self.registers().start
     }
 
     // The address of its first register.
     pub fn address(self) -> Address
-        ensures area { result.area ≡ Registers }
-        ensures offset { result.offset ≡ first_of self }
+        ensures { result ≡ address_at Registers (first_of self) }
     {
         Area::Registers.at(self.first())
-    }
-
-    // The number of its registers.
-    fn length(self) -> u16
-        ensures { result ≡ length_of self }
-    {
-        match self {
-            Section::Alarm0 | Section::Alarm1 | Section::Clock => 8,
-            Section::Control => 4,
-            Section::Status => 1,
-        }
     }
 
     // One register on inside the section; after its last comes its first.
     pub(crate) fn next(self, register: u16) -> u16
         ensures { result ≡ next_in self register }
     {
-        let first = self.first();
-        let length = self.length();
-        first + (register.saturating_sub(first) % length + 1) % length
+        let Range { start, end } = self.registers();
+        next_in(start, end - start, register)
     }
 }
 

@@ -5,8 +5,8 @@ ghost use Rattle.chip.specs.Slaves.{slave_named, slave_byte, slave_of, area_of, 
 // The two address spaces.
 #[derive(Clone, Copy, PartialEq, Eq, Debug)]
 pub enum Area {
-    Array,
-    Registers,
+    Array = 1,
+    Registers = 2,
 }
 
 // Who sends the data bytes of a frame: the master in a write, the module in a read.
@@ -16,13 +16,13 @@ pub enum Direction {
     Read,
 }
 
-// What a frame asks for by its first byte.
+// What a frame asks for by its first byte. Four cases and no pair of area and direction, since a case is a byte of its own.
 #[derive(Clone, Copy, PartialEq, Eq, Debug)]
 pub enum Slave {
-    ArrayWrite,
-    ArrayRead,
-    RegisterWrite,
-    RegisterRead,
+    ArrayWrite = 0xAE,
+    ArrayRead = 0xAF,
+    RegisterWrite = 0xDE,
+    RegisterRead = 0xDF,
 }
 
 impl Slave {
@@ -75,11 +75,6 @@ impl From<Slave> for u8 {
     ghost from_gives = { λ slave byte. byte ≡ slave_byte slave };
 
     fn from(slave: Slave) -> u8 {
-        match slave {
-            Slave::ArrayWrite => 0xAE,
-            Slave::ArrayRead => 0xAF,
-            Slave::RegisterWrite => 0xDE,
-            Slave::RegisterRead => 0xDF,
-        }
+        slave as u8
     }
 }

@@ -65,17 +65,13 @@ fn refuses_places_above_status(rt: HostRuntime) {
     let mut bytes = [0; PLACES];
     let memory = Image::new(&mut bytes, 0);
     let module = Module::make();
-    assert!(rt;
-        matches!(
-            module.show(&memory, 541),
-            Err(Refusal::BadPlace { place: 541 })
-        )
+    assert_eq!(rt;
+        module.show(&memory, 541),
+        Err(Refusal::BadPlace { place: 541 })
     );
-    assert!(rt;
-        matches!(
-            module.show(&memory, 65_535),
-            Err(Refusal::BadPlace { place: 65_535 })
-        )
+    assert_eq!(rt;
+        module.show(&memory, 65_535),
+        Err(Refusal::BadPlace { place: 65_535 })
     );
 }
 
@@ -84,9 +80,9 @@ fn refuses_an_unfit_memory_first(rt: HostRuntime) {
     let mut bytes = [0; 10];
     let memory = Image::new(&mut bytes, 0);
     let module = Module::make();
-    assert!(rt; matches!(module.show(&memory, 0), Err(Refusal::Unfit)));
-    assert!(rt; matches!(module.show(&memory, 541), Err(Refusal::Unfit)));
-    assert!(rt; matches!(module.pin(&memory), Err(Refusal::Unfit)));
+    assert_eq!(rt; module.show(&memory, 0), Err(Refusal::Unfit));
+    assert_eq!(rt; module.show(&memory, 541), Err(Refusal::Unfit));
+    assert_eq!(rt; module.pin(&memory), Err(Refusal::Unfit));
 }
 
 #[test]
@@ -94,29 +90,29 @@ fn releases_the_pin_without_supply(rt: HostRuntime) {
     let mut bytes = [0; PLACES];
     bytes[INT] = 0x08;
     let memory = Image::new(&mut bytes, 0);
-    assert!(rt; matches!(Module::make().pin(&memory), Ok(Pin::Released)));
+    assert_eq!(rt; Module::make().pin(&memory), Ok(Pin::Released));
 }
 
 #[test]
 fn drives_the_pin_by_crystal_and_divider(rt: HostRuntime) -> Result<(), Fail> {
-    assert!(rt; matches!(pin_after(0x08, 0)?, Pin::Crystal));
-    assert!(rt; matches!(pin_after(0x10, 3)?, Pin::Low));
-    assert!(rt; matches!(pin_after(0x10, 4)?, Pin::Released));
-    assert!(rt; matches!(pin_after(0x10, 8)?, Pin::Low));
-    assert!(rt; matches!(pin_after(0x18, 16_383)?, Pin::Low));
-    assert!(rt; matches!(pin_after(0x18, 16_384)?, Pin::Released));
+    assert_eq!(rt; pin_after(0x08, 0)?, Pin::Crystal);
+    assert_eq!(rt; pin_after(0x10, 3)?, Pin::Low);
+    assert_eq!(rt; pin_after(0x10, 4)?, Pin::Released);
+    assert_eq!(rt; pin_after(0x10, 8)?, Pin::Low);
+    assert_eq!(rt; pin_after(0x18, 16_383)?, Pin::Low);
+    assert_eq!(rt; pin_after(0x18, 16_384)?, Pin::Released);
     Ok(())
 }
 
 #[test]
 fn drives_the_pin_by_an_alarm(rt: HostRuntime) -> Result<(), Fail> {
-    assert!(rt; matches!(pin_after(0x60, 0)?, Pin::Released));
+    assert_eq!(rt; pin_after(0x60, 0)?, Pin::Released);
     let mut bytes = [0; PLACES];
     bytes[ALARM_SECONDS] = 0x80;
     bytes[INT] = 0x20;
     let mut memory = Image::new(&mut bytes, 0);
     let module = alarmed(&mut memory)?;
-    assert!(rt; matches!(module.pin(&memory)?, Pin::Low));
+    assert_eq!(rt; module.pin(&memory)?, Pin::Low);
     assert_eq!(rt; module.show(&memory, 540)?, 0x22);
     assert_eq!(rt; module.show(&memory, 540)?, 0x22);
     Ok(())
@@ -129,6 +125,6 @@ fn passes_no_alarm_that_int_leaves_out(rt: HostRuntime) -> Result<(), Fail> {
     bytes[INT] = 0x40;
     let mut memory = Image::new(&mut bytes, 0);
     let module = alarmed(&mut memory)?;
-    assert!(rt; matches!(module.pin(&memory)?, Pin::Released));
+    assert_eq!(rt; module.pin(&memory)?, Pin::Released);
     Ok(())
 }

@@ -18,6 +18,7 @@ pub const TICKETS: u16 = 24;
 const BILLED: u8 = 0x00;
 
 /// What a customer owes for: the load of a truck, in kilograms, and when it was weighed.
+// The figures as they are printed, and no load with a tare to reckon from.
 #[derive(Clone, Copy, PartialEq, Eq, Debug)]
 pub struct Invoice {
     pub truck: u16,
@@ -104,9 +105,8 @@ pub fn tare<M: Memory>(memory: &M, truck: u16) -> Result<Tare, LedgerError>
     record_at(memory, tare_place(truck))?.ok_or(LedgerError::NoTare)
 }
 
-// A memory is lent to each call, as to the chip's, and a ticket is any number: together they would make no value.
-
 /// The weighing that a ticket holds, if it holds one that is not yet billed.
+// A memory is lent to each call, as to the chip's, and a ticket is any number: together they would make no value.
 pub fn weighing<M: Memory>(memory: &M, ticket: u16) -> Result<Option<Weighing>, LedgerError>
     ensures { result ≡ weighing_answer (M.holds memory.now) ticket }
 {

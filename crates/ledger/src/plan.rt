@@ -8,6 +8,7 @@ use crate::day::Step;
 const FLEET: u16 = 8;
 
 /// The step with this number, or none after the last.
+// By its number, so that a contract names one step; a day is walked by `(0..).map_while`.
 pub fn planned(n: u16) -> Option<Step>
     ensures { result ≡ planned_step n }
 {

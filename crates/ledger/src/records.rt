@@ -38,6 +38,7 @@ pub struct Tare {
 }
 
 /// The time of a weighing: the eight clock bytes, all 00h where there is no clock.
+// No Option of a clock: one of eight zeros would not come back from its bytes.
 #[derive(Clone, Copy, PartialEq, Eq, Debug)]
 pub struct Stamp {
     pub clock: Clock,
@@ -149,16 +150,9 @@ impl Record<WEIGHING_SIZE> for Weighing {
         }
         let truck = u16::from_be_bytes([bytes[2], bytes[3]]);
         let gross = u32::from_be_bytes([bytes[4], bytes[5], bytes[6], bytes[7]]);
-        let clock = Clock {
-            seconds: bytes[8],
-            minutes: bytes[9],
-            hours: bytes[10],
-            date: bytes[11],
-            month: bytes[12],
-            year: bytes[13],
-            weekday: bytes[14],
-            century: bytes[15],
-        };
+        let clock = Clock::from([
+            bytes[8], bytes[9], bytes[10], bytes[11], bytes[12], bytes[13], bytes[14], bytes[15],
+        ]);
         Some(Weighing {
             truck,
             gross,

@@ -77,6 +77,7 @@ pub fn write_each<M: Memory>(memory: &mut M, writes: &[ByteWrite]) -> usize
     ensures after { M.holds memory.new ≡ after (M.holds memory.old) writes.now }
     ensures spent { result + (M.holds memory.new).life ≡ (M.holds memory.old).life }
 {
+    // A loop, since of a closure that writes a proof would not know what it wrote.
     let mut count = 0;
     for write in writes {
         let made = memory.write(write.place, write.byte).is_ok();

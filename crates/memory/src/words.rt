@@ -15,7 +15,7 @@ const BYTE_VALUES: u32 = 256;
 /// A record is below this number.
 const RECORD_LIMIT: u32 = PLACES as u32 * BYTE_VALUES;
 
-/// A byte laid down at a place.
+/// A byte laid down at a place that a memory has; a `ByteWrite` may name any place.
 #[derive(Clone, Copy)]
 pub(crate) struct Record {
     pub(crate) place: usize,
@@ -92,6 +92,7 @@ pub(crate) fn lay_down(words: &mut [u32], bytes: &[u8; PLACES])
     requires { places ≤ length words.old }
     ensures { words.new ≡ records_of bytes.now ++ replicate (length words.old - places) blank }
 {
+    // Not a zip of the two: of a slice behind an adapter of iter_mut a proof would know nothing.
     words.fill(BLANK);
     for (place, byte) in bytes.iter().enumerate() {
         words[place] = u32::from(Record { place, byte: *byte });

@@ -15,7 +15,7 @@ fn each_refusal_has_its_number(rt: HostRuntime) {
 fn an_unfit_image_refuses_everything(rt: HostRuntime) {
     let mut bytes = [0; 531];
     let mut image = Image::new(&mut bytes, 9);
-    assert_eq!(rt; image.is_fit(), false);
+    assert!(rt; !image.is_fit());
     assert_eq!(rt; image.life(), 0);
     assert_eq!(rt; image.read(0), Err(Refusal::Unfit));
     assert_eq!(rt; image.read(532), Err(Refusal::Unfit));
@@ -26,10 +26,10 @@ fn an_unfit_image_refuses_everything(rt: HostRuntime) {
 #[test]
 fn an_image_is_fit_up_to_its_limits(rt: HostRuntime) {
     let mut bytes = [0; 532];
-    assert_eq!(rt; Image::new(&mut bytes, 1_000_000_000).is_fit(), true);
-    assert_eq!(rt; Image::new(&mut bytes, 1_000_000_001).is_fit(), false);
+    assert!(rt; Image::new(&mut bytes, 1_000_000_000).is_fit());
+    assert!(rt; !Image::new(&mut bytes, 1_000_000_001).is_fit());
     let mut more = [0; 533];
-    assert_eq!(rt; Image::new(&mut more, 0).is_fit(), true);
+    assert!(rt; Image::new(&mut more, 0).is_fit());
 }
 
 #[test]

@@ -56,27 +56,27 @@ fn a_full_journal_spends_an_erasure(rt: HostRuntime) -> Result<(), Fail> {
 #[test]
 fn a_journal_is_fit_up_to_its_limits(rt: HostRuntime) {
     let mut few = [BLANK; 532];
-    assert_eq!(rt; Journal::new(&mut few, 1).is_fit(), false);
+    assert!(rt; !Journal::new(&mut few, 1).is_fit());
     let mut least = [BLANK; 533];
-    assert_eq!(rt; Journal::new(&mut least, 100_000).is_fit(), true);
-    assert_eq!(rt; Journal::new(&mut least, 100_001).is_fit(), false);
+    assert!(rt; Journal::new(&mut least, 100_000).is_fit());
+    assert!(rt; !Journal::new(&mut least, 100_001).is_fit());
     let mut most = [BLANK; 16_384];
     assert_eq!(rt; Journal::new(&mut most, 100_000).life(), 1_585_216_384);
     let mut many = [BLANK; 16_385];
-    assert_eq!(rt; Journal::new(&mut many, 0).is_fit(), false);
+    assert!(rt; !Journal::new(&mut many, 0).is_fit());
 }
 
 #[test]
 fn only_records_and_then_blanks_are_fit(rt: HostRuntime) {
     let mut words = [BLANK; 533];
     words[0] = 136_191;
-    assert_eq!(rt; Journal::new(&mut words, 0).is_fit(), true);
+    assert!(rt; Journal::new(&mut words, 0).is_fit());
     words[1] = 136_192;
-    assert_eq!(rt; Journal::new(&mut words, 0).is_fit(), false);
+    assert!(rt; !Journal::new(&mut words, 0).is_fit());
     words[1] = BLANK;
     words[2] = 0;
     let journal = Journal::new(&mut words, 0);
-    assert_eq!(rt; journal.is_fit(), false);
+    assert!(rt; !journal.is_fit());
     assert_eq!(rt; journal.words_used(), 1);
     assert_eq!(rt; journal.life(), 0);
     assert_eq!(rt; journal.read(0), Err(Refusal::Unfit));

@@ -39,10 +39,7 @@ impl<M: Memory> Board<'_, M> {
     fn told(&self, refusal: Option<Refusal>) -> Answer
         ensures { result ≡ told_of self.now refusal }
     {
-        Answer {
-            sda: !self.chip.pulls(),
-            refusal,
-        }
+        self.chip.told(refusal)
     }
 
     // Makes the calls of a line, and answers what a board is told after the last of them.

@@ -6,7 +6,7 @@ use crate::lines::{SPACE, cut};
 use crate::numbers::number;
 use chip::calls::Call;
 
-// The name that a value line begins with.
+// The name that a value line begins with. It stands by itself, since a line is read name by name and number by number.
 #[derive(Clone, Copy, PartialEq, Eq, Debug)]
 pub enum Name {
     Level,

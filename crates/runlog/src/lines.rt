@@ -15,7 +15,7 @@ pub fn cut(text: &[u8], at: u8) -> Option<(&[u8], &[u8])>
     Some((&text[..i], &text[i + 1..]))
 }
 
-// The lines of a text, one after the other, without their LF.
+// The lines of a text, one after the other, without their LF. The library's `split` has one piece more, after the last LF.
 #[derive(Drop)]
 pub struct Lines<'a> {
     rest: &'a [u8],

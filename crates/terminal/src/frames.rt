@@ -13,8 +13,8 @@ use std::alloc::AllocError;
 // A write latch. The second can be put on only where the first is.
 #[derive(Clone, Copy, PartialEq, Eq, Debug)]
 pub enum Latch {
-    Wel,
-    Rwel,
+    Wel = 0x02,
+    Rwel = 0x06,
 }
 
 ghost use Rattle.terminal.specs.Calls.{latch_byte};
@@ -24,10 +24,7 @@ impl From<Latch> for u8 {
     ghost from_gives = { λ latch byte. byte ≡ latch_byte latch };
 
     fn from(latch: Latch) -> u8 {
-        match latch {
-            Latch::Wel => 0x02,
-            Latch::Rwel => 0x06,
-        }
+        latch as u8
     }
 }
 
@@ -60,8 +57,7 @@ impl Script {
         self.start()?;
         self.send(Slave::of(to.area, Direction::Write).into())?;
         self.send(high)?;
-        self.send(low)?;
-        Ok(())
+        self.send(low)
     }
 
     // A whole write.
@@ -70,8 +66,7 @@ impl Script {
     {
         self.head(to)?;
         self.send_all(bytes)?;
-        self.stop()?;
-        Ok(())
+        self.stop()
     }
 
     // Sets the counter, and begins a read there.
@@ -80,8 +75,7 @@ impl Script {
     {
         self.head(to)?;
         self.restart()?;
-        self.send(Slave::of(to.area, Direction::Read).into())?;
-        Ok(())
+        self.send(Slave::of(to.area, Direction::Read).into())
     }
 
     // Reads bytes one after the other, at least one.
@@ -106,7 +100,6 @@ impl Script {
     pub fn write_clock(&mut self, clock: Clock) -> Result<(), AllocError>
         ensures { OnOk result (self.new ≡ with_clock self.old clock) }
     {
-        self.write(Section::Clock.address(), &<[u8; 8]>::from(clock))?;
-        Ok(())
+        self.write(Section::Clock.address(), &<[u8; 8]>::from(clock))
     }
 }

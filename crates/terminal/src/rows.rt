@@ -73,7 +73,7 @@ fn bit_at(rows: &[Answer], row: usize) -> u8
     u8::from(level_at(rows, row))
 }
 
-// The byte of nine pulses that begin the rows.
+// The byte of nine pulses that begin the rows. Bit by bit, as its rule says it: a fold would be no shorter to compare with that.
 fn byte_of(rows: &[Answer]) -> u8
     ensures { result ≡ byte_of rows.now }
 {
@@ -102,6 +102,7 @@ fn first_byte(rows: &[Answer]) -> u8
 pub fn read_bytes(rows: &[Answer], bytes: &mut [u8])
     ensures { (k : ℕ) → k < length bytes.new → slice_index bytes.new k ≡ byte_at rows.now k }
 {
+    // Not a zip: of a slice behind an adapter of iter_mut a proof would know nothing.
     let mut left = rows;
     for byte in bytes.iter_mut() {
         *byte = first_byte(left);
@@ -117,13 +118,8 @@ pub fn write_outcome(rows: &[Answer], count: u16) -> Result<(), BusError>
     if level_at(rows, end) {
         return Err(BusError::Silent);
     }
-    match rows.get(end + 3) {
-        Some(
-            Answer {
-                refusal: Some(refusal),
-                ..
-            },
-        ) => Err(BusError::Refused(*refusal)),
-        _ => Ok(()),
+    match rows.get(end + 3).and_then(|row| row.refusal) {
+        Some(refusal) => Err(BusError::Refused(refusal)),
+        None => Ok(()),
     }
 }

@@ -2,7 +2,6 @@
 ghost use Rattle.std.specs.Prelude.{◌≡◌, [], length};
 ghost use Rattle.terminal.specs.Calls.{added, nine, received, release_calls, reply_level, restart_calls, sent, start_calls, stop_calls, supply_calls};
 
-use chip::bits::is_zero_bit;
 use chip::calls::{Call, Supply};
 use std::alloc::{AllocError, Global};
 use std::array;
@@ -11,8 +10,8 @@ use std::marker::Model;
 // What the terminal says with the ninth level of a byte that it reads.
 #[derive(Clone, Copy, PartialEq, Eq, Debug)]
 pub enum Reply {
-    More,
-    Last,
+    More = 0,
+    Last = 1,
 }
 
 // The ninth level of a byte read.
@@ -20,10 +19,7 @@ impl From<Reply> for u16 {
     ghost from_gives = { λ reply level. level ≡ reply_level reply };
 
     fn from(reply: Reply) -> u16 {
-        match reply {
-            Reply::More => 0,
-            Reply::Last => 1,
-        }
+        reply as u16
     }
 }
 
@@ -145,7 +141,7 @@ fn high(sda: u16) -> Call
     Call::Level { scl: 1, sda }
 }
 
-// Eight pulses with the bits of a byte, the highest first, and a ninth.
+// Eight pulses with the bits of a byte, the highest first, and a ninth. The bits have names, as in the rule that lists them.
 fn nine_pulses(byte: u8, ninth: u16) -> [Call; 18]
     ensures { result ≡ nine byte ninth }
 {

@@ -16,6 +16,8 @@ const ERASURES: u32 = 1;
 /// The writes that the image is good for at night.
 const NIGHT_LIFE: u32 = 1_000;
 
+// What prints takes the narrowest handle of the runtime beside its memory; the two make no value.
+
 /// Works one step, and prints it with the life before and after.
 fn show<M: Memory>(rt: &impl Print, memory: &mut M, step: Step) -> io::Result<()> {
     let before = life_left(memory).unwrap_or(0);
@@ -36,16 +38,13 @@ fn show_day<M: Memory>(rt: &impl Print, memory: &mut M) -> io::Result<()> {
 }
 
 /// Works the planned day, and answers how many steps were done and how many refused.
-fn work_day<M: Memory>(memory: &mut M) -> (u16, u16) {
-    let mut done = 0u16;
-    let mut refused = 0u16;
-    for step in (0..u16::MAX).map_while(|n| planned(n)) {
-        match step.work(memory) {
-            Ok(_) => done = done.saturating_add(1),
-            Err(_) => refused = refused.saturating_add(1),
-        }
-    }
-    (done, refused)
+fn work_day<M: Memory>(memory: &mut M) -> (usize, usize) {
+    let steps = (0..u16::MAX).map_while(|n| planned(n)).count();
+    let done = (0..u16::MAX)
+        .map_while(|n| planned(n))
+        .filter(|step| step.work(memory).is_ok())
+        .count();
+    (done, steps.saturating_sub(done))
 }
 
 /// Prints how many places hold the same byte in both memories.

@@ -4,7 +4,7 @@ use chip::calls::{Answer, Supply};
 use chip::counter::Address;
 use chip::registers::Section;
 use chip::slaves::Slave;
-use ledger::{Record, Tare, Weighing};
+use ledger::{Record, TARE_SIZE, Tare, WEIGHING_SIZE, Weighing};
 use memory::Memory;
 use std::alloc::{AllocError, Global};
 use std::io;
@@ -12,7 +12,7 @@ use terminal::{
     Latch, Reply, Rows, Script, bill, read_bytes, tare_address, weighing_address, write_outcome,
 };
 
-/// The ticks of a second, and of a write cycle.
+/// The ticks of a second, and of a write cycle, as a terminal has them from the chip's sheet.
 const SECOND: u32 = 32_768;
 
 const WRITE_CYCLE: u32 = 164;
@@ -52,6 +52,7 @@ const NO_LEAP_DAY: Clock = Clock {
 };
 
 /// What the terminal did, with the row where its part of the script begins.
+// Cases and no closures, since a deed is shown only once the rows are there.
 #[derive(Clone, Copy)]
 enum Deed {
     Supplied(Supply),
@@ -240,7 +241,7 @@ impl Night {
     }
 
     fn read_ticket(&mut self, ticket: u8) -> Result<(), AllocError> {
-        let mark = self.read(weighing_address(ticket), 16)?;
+        let mark = self.read(weighing_address(ticket), WEIGHING_SIZE as u16)?;
         self.note(Deed::TicketRead { ticket, mark })
     }
 
@@ -255,8 +256,8 @@ impl Night {
 
     /// Reads a ticket and its truck's tare to bill it.
     fn bill(&mut self, ticket: u8) -> Result<(), AllocError> {
-        let weighing = self.read(weighing_address(ticket), 16)?;
-        let tare = self.read(tare_address(ticket), 8)?;
+        let weighing = self.read(weighing_address(ticket), WEIGHING_SIZE as u16)?;
+        let tare = self.read(tare_address(ticket), TARE_SIZE as u16)?;
         self.note(Deed::Billed {
             ticket,
             weighing,

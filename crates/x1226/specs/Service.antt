@@ -38,9 +38,13 @@ show s m place = cond m.fit (shown s m place) (Err Unfit)
 abbrev pub interrupt_byte : Mem → ℕ
 interrupt_byte m = slice_index m.bytes (place_of Registers interrupt_register)
 
+-- The byte stored at a place; an unfit memory is refused.
+abbrev pub byte_read : Mem → ℕ → Result ℕ Refusal
+byte_read m place = cond m.fit (Ok (slice_index m.bytes place)) (Err Unfit)
+
 -- The byte stored for INT; an unfit memory is refused.
 abbrev pub interrupt_read : Mem → Result ℕ Refusal
-interrupt_read m = cond m.fit (Ok (interrupt_byte m)) (Err Unfit)
+interrupt_read m = byte_read m (place_of Registers interrupt_register)
 
 -- AL1 is on with INT bit 6, or AL0 with INT bit 5.
 abbrev pub alarm_interrupts : State → ℕ → Bool

@@ -1,5 +1,5 @@
 -- What each call does: its answer, and what it leaves of module and memory.
-use Rattle.std.specs.Prelude.{Bool, true, false, cond, not, List, [], ◌∷◌, Ok, Err, Result, ◌==◌}
+use Rattle.std.specs.Prelude.{Bool, true, false, cond, not, List, [], ◌∷◌, Ok, Err, Option, Result, ◌==◌}
 use Rattle.memory.specs.Model.{Mem}
 use Rattle.chip.specs.Calls.{accepted}
 use Rattle.chip.specs.Wires.{edge_between}
@@ -70,6 +70,10 @@ taken (Err r) s m = refused r s m
 -- A call: an unfit memory is refused first, then numbers out of range; a refusal of these leaves all as before.
 abbrev pub worked : Call → State → Mem → Left
 worked c s m = cond m.fit (taken (accepted c) s m) (refused Unfit s m)
+
+-- What a board is told as the module stands.
+abbrev pub told_with : State → Option Refusal → Answer
+told_with s refusal = record { sda = not (pulls s.phase); refusal = refusal }
 
 -- What a board is told after a call.
 abbrev pub told : Left → Answer

@@ -5,7 +5,7 @@ ghost use Rattle.x1226.specs.Answers.{level_answer};
 ghost use Rattle.x1226.specs.Frame.{pulls};
 ghost use Rattle.x1226.specs.Service.{pin, show};
 ghost use Rattle.x1226.specs.State.{made};
-ghost use Rattle.x1226.specs.Step.{worked, told};
+ghost use Rattle.x1226.specs.Step.{worked, told, told_with};
 ghost use Rattle.x1226.specs.Store.{verdict};
 
 use crate::fit::Fit;
@@ -86,6 +86,16 @@ impl Module {
         self.take(memory, Call::Supply { which })
     }
 
+    // What a board is told as the module stands: the level on SDA, and why it was refused.
+    pub fn told(&self, refusal: Option<Refusal>) -> Answer
+        ensures { result ≡ told_with self.now.state refusal }
+    {
+        Answer {
+            sda: !self.pulls(),
+            refusal,
+        }
+    }
+
     // Works any call, and answers what a board is told after it.
     pub fn work<M: Memory>(&mut self, memory: &mut M, call: Call) -> Answer
         ensures state { self.new.state ≡ (worked call self.old.state (M.holds memory.old)).state }
@@ -93,10 +103,7 @@ impl Module {
         ensures answer { result ≡ told (worked call self.old.state (M.holds memory.old)) }
     {
         let refusal = self.take(memory, call).err();
-        Answer {
-            sda: !self.pulls(),
-            refusal,
-        }
+        self.told(refusal)
     }
 
     // The byte at a place: the stored ones, then the clock's eight, then status. It clears no flag.

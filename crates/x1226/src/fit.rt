@@ -30,7 +30,7 @@ impl<M: Memory> Fit<'_, M> {
         self.memory.read(place).unwrap_or(0)
     }
 
-    // Asks whether the memory will take `n` more writes; where it will not, the life left.
+    // Asks whether the memory will take `n` more writes; where it will not, the life left, for which alone a fit memory refuses.
     pub fn claim(&self, n: u32) -> Result<(), u32>
         ensures { result ≡ life_for n self.now.mem }
     {

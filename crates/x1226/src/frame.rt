@@ -1,5 +1,6 @@
 // What a start, and a fall of SCL, do in a frame.
 ghost use Rattle.std.specs.Prelude.{◌≡◌};
+ghost use Rattle.chip.specs.Counter.{address_at};
 ghost use Rattle.x1226.specs.Answers.{answered, sent_bit};
 ghost use Rattle.x1226.specs.Frame.{started, takes, sending, copied, addressed_as, located, staged, acknowledged, sent_whole};
 
@@ -12,8 +13,7 @@ use memory::Memory;
 impl State {
     // Where the counter stands, in the area of the frame.
     pub fn counted(&self) -> Address
-        ensures area { result.area ≡ self.now.area }
-        ensures offset { result.offset ≡ self.now.counter }
+        ensures { result ≡ address_at self.now.area self.now.counter }
     {
         self.area.at(self.counter)
     }
@@ -117,7 +117,7 @@ impl State {
                 self.high = byte;
                 self.phase = Phase::awaiting(2);
             }
-            2 => self.locate(self.area.address(self.high, byte)),
+            2 => self.locate(self.area.address(self.high, byte).offset),
             _ => self.stage(byte),
         }
     }

@@ -30,7 +30,7 @@ impl State {
         }
     }
 
-    // What the module does depends on its phase and on the edge.
+    // What the module does depends on its phase and on the edge together; a rule has it a match on both.
     fn act<M: Memory>(&mut self, fit: &mut Fit<M>, edge: Edge) -> Result<(), Refusal>
         ensures state { self.new ≡ (acted edge self.old fit.old.mem).state }
         ensures mem { fit.new ≡ holding (acted edge self.old fit.old.mem).mem fit.old }

@@ -11,6 +11,7 @@ pub fn replay<M: Memory>(memory: &mut M, calls: &[Call], rows: &mut [Answer]) ->
     ensures { Replayed (min (length calls.now) (length rows.old)) (M.holds memory.old) calls.now rows.old rows.new result.state (M.holds memory.new) }
 {
     let mut module = Module::make();
+    // Not a zip: of a slice behind an adapter of iter_mut a proof would know nothing.
     let mut left = calls;
     for row in rows.iter_mut() {
         let Some((call, later)) = left.split_first() else {

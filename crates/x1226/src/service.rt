@@ -1,6 +1,7 @@
 // What a board is told without the bus: the byte at a place, and the pin. Nothing changes by it.
-ghost use Rattle.std.specs.Prelude.{◌≡◌};
-ghost use Rattle.x1226.specs.Service.{alarm_interrupts, interrupt_read, low_while, pin, pin_by, show};
+ghost use Rattle.std.specs.Prelude.{◌≡◌, ◌<◌};
+ghost use Rattle.memory.specs.Sizes.{places};
+ghost use Rattle.x1226.specs.Service.{alarm_interrupts, byte_read, interrupt_read, low_while, pin, pin_by, show};
 
 use crate::state::State;
 use crate::timer::SECOND;
@@ -24,13 +25,19 @@ const AL1E: u8 = 0x40;
 
 const AL0E: u8 = 0x20;
 
+// The byte stored at a place; an unfit memory is refused.
+fn stored_byte<M: Memory>(memory: &M, place: usize) -> Result<u8, Refusal>
+    requires { place < places }
+    ensures { result ≡ byte_read (M.holds memory.now) place }
+{
+    memory.read(place).map_err(|_| Refusal::Unfit)
+}
+
 // The byte stored for INT; an unfit memory is refused.
 fn interrupt_byte<M: Memory>(memory: &M) -> Result<u8, Refusal>
     ensures { result ≡ interrupt_read (M.holds memory.now) }
 {
-    memory
-        .read(Area::Registers.at(INT).place())
-        .map_err(|_| Refusal::Unfit)
+    stored_byte(memory, Area::Registers.at(INT).place())
 }
 
 // The pin is low while this holds, else released.
@@ -50,7 +57,7 @@ impl State {
         }
         let at = usize::from(place);
         if at < PLACES {
-            memory.read(at).map_err(|_| Refusal::Unfit)
+            stored_byte(memory, at)
         } else if at < STATUS_PLACE {
             Ok(self.timer.clock.byte(at - PLACES))
         } else if at == STATUS_PLACE {

@@ -6,10 +6,8 @@ ghost use Rattle.x1226.specs.Store.{staged_from, sent_to, clock_joined};
 
 use crate::state::{STAGED, Staging};
 use calendar::clock::Clock;
+use chip::registers::Section;
 use std::array;
-
-// The place staged for the first of the clock's registers.
-const CLOCK: usize = 0x30;
 
 impl Staging {
     // No byte staged yet, of a write whose first data byte goes to an address.
@@ -36,12 +34,11 @@ impl Staging {
         self.held.iter().filter(|held| held.is_some()).count() as u32
     }
 
-    // The byte staged for a register.
+    // The byte staged for a register; none for a register that there is not.
     pub fn sent_to(&self, register: u16) -> Option<u8>
-        requires { register < 64 }
         ensures { result ≡ sent_to self.now register }
     {
-        self.held[usize::from(register)]
+        self.held.get(usize::from(register)).copied().flatten()
     }
 
     // The clock bytes that the staged ones make of the clock copied.
@@ -49,7 +46,8 @@ impl Staging {
         ensures { result ≡ clock_joined copied self.now }
     {
         let bytes: [u8; 8] = copied.into();
-        Clock::from(array::from_fn(|k| { self.held[CLOCK + k].unwrap_or(bytes[k]) }))
+        let first = usize::from(Section::Clock.first());
+        Clock::from(array::from_fn(|k| { self.held[first + k].unwrap_or(bytes[k]) }))
     }
 }
 

@@ -1,5 +1,6 @@
 // How staged bytes go to the memory: all that its life lasts for, or none.
 ghost use Rattle.std.specs.Prelude.{◌≡◌, ◌<◌};
+ghost use Rattle.chip.specs.Counter.{address_at};
 ghost use Rattle.x1226.specs.Memories.{holding};
 ghost use Rattle.x1226.specs.Stop.{address_staged, lock_byte, store_held, stored_held};
 ghost use Rattle.x1226.specs.Store.{store, store_page, store_registers, date_asked};
@@ -22,13 +23,12 @@ fn lock_byte<M: Memory>(fit: &Fit<M>) -> u8
     fit.byte(Section::Control.address().place())
 }
 
-// The area comes beside the record, as the state keeps it: a struct of the two would be made for these alone.
+// The area comes beside the record: a frame has its area from its slave byte, before there is a record of what it sends.
 impl Staging {
     // The address that staged place `k` stands for.
     fn address_staged(&self, area: Area, k: u16) -> Address
         requires { k < 64 }
-        ensures area { result.area ≡ area }
-        ensures offset { result.offset ≡ address_staged area self.now.address k }
+        ensures { result ≡ address_at area (address_staged area self.now.address k) }
     {
         let offset = match area {
             Area::Array => page_first(self.address) + k,
