@@ -7,6 +7,8 @@ use memory::{Image, Memory, PLACES};
 use std::test::Fail;
 use x1226::Module;
 
+// Module and memory are lent to each of these, as to the module's own calls.
+
 // Gives a bit, and answers the level that the module leaves after SCL's fall.
 fn pulse<M: Memory>(module: &mut Module, memory: &mut M, bit: u16) -> Result<bool, Refusal> {
     let level = module.level(memory, 0, bit)?;

@@ -57,8 +57,11 @@ fn calls_and_edges(rt: HostRuntime) {
 
 #[test]
 fn addresses_and_places(rt: HostRuntime) {
-    assert_eq!(rt; Area::Array.address(0x03, 0xFF), 0x1FF);
-    assert_eq!(rt; Area::Registers.address(0x00, 0xFF), 0x3F);
+    assert_eq!(rt; Area::Array.address(0x03, 0xFF), Area::Array.at(0x1FF));
+    assert_eq!(rt;
+        Area::Registers.address(0x00, 0xFF),
+        Area::Registers.at(0x3F)
+    );
     assert_eq!(rt; Area::Array.at(0x3F).next_written(), 0x00);
     assert_eq!(rt; Area::Array.at(0x3F).next_read(), 0x40);
     assert_eq!(rt; Area::Array.at(0x1FF).next_read(), 0x000);

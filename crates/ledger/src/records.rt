@@ -122,6 +122,7 @@ impl Record<WEIGHING_SIZE> for Weighing {
         let truck = self.truck.to_be_bytes();
         let gross = self.gross.to_be_bytes();
         let clock = Clock::from(self.stamp);
+        // The clock's bytes are listed as the others are: arrays cannot be joined without a heap.
         [
             PRESENT,
             0,
