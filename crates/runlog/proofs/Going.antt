@@ -7,12 +7,14 @@ use Rattle.x1226.specs.declared.state.State.{State}
 use Rattle.runlog.specs.declared.board.Board.{Board}
 use Rattle.runlog.specs.declared.calls.LineCall.{LineCall}
 use Rattle.runlog.specs.declared.reply.Reply.{Reply}
+use Rattle.runlog.specs.Back.{ReadsBack, RowsReadBack}
 use Rattle.runlog.specs.Board.{IsLeft, lined, ran}
 use Rattle.runlog.specs.Calls.{line_call}
 use Rattle.runlog.specs.Lines.{bytes_of}
 use Rattle.runlog.specs.Reply.{Appends, row_text}
 use Rattle.runlog.specs.Run.{Lined, line_asks, Ran, after_line, lines_worked, rows_text}
 use Rattle.runlog.specs.Texts.{lines}
+use Rattle.runlog.proofs.Back.{none_read_back, more_read_back}
 use Rattle.runlog.proofs.Lengths.{readable_long}
 use Rattle.runlog.proofs.Replies.{appends_append}
 
@@ -43,6 +45,7 @@ module _ {M : Type 0} (holds : M → Mem) where
     pub rows : done ++ rows_text (ahead n rest now).rows ≡ rows_text (ahead 2 text start).rows
     pub state : (ahead n rest now).state ≡ (ahead 2 text start).state
     pub mem : (ahead n rest now).mem ≡ (ahead 2 text start).mem
+    pub back : RowsReadBack (ahead n rest now).rows → RowsReadBack (ahead 2 text start).rows
     pub room : 4 * reply.used + 15 * bytes_of (lines rest) ≤ 4 * begun.used + 15 * bytes_of (lines text)
     pub count : n + bytes_of (lines rest) ≤ 2 + bytes_of (lines text)
 
@@ -50,6 +53,7 @@ module _ {M : Type 0} (holds : M → Mem) where
   pub record Gone (start after : Board M) (begun reply : Reply) (text : List ℕ) : Type 0 where
     pub left : IsLeft holds start after (ran holds start text).state (ran holds start text).mem
     pub written : Appends begun reply (rows_text (ran holds start text).rows)
+    pub back : RowsReadBack (ran holds start text).rows
 
   -- The same by another name of the line's number.
   going_at : (start now : Board M) (begun reply : Reply) (text rest : List ℕ) (n m : ℕ) → m ≡ n
@@ -72,12 +76,14 @@ module _ {M : Type 0} (holds : M → Mem) where
         };
         written = subst (Appends begun reply)
             (sym (append-nil k.done) ∙ ap (λ (a : Ran). k.done ++ rows_text a.rows) (sym is) ∙ k.rows) k.written;
+        back = k.back (subst (λ (a : Ran). RowsReadBack a.rows) (sym is) none_read_back);
       }
 
   module _ (start now after : Board M) (begun reply full : Reply) (text rest line more : List ℕ) (from n next : ℕ) (is-from : n ≡ from) (is-next : next ≡ n + 1)
       (came : Going start now begun reply text rest from) (split : lines rest ≡ line ∷ lines more)
       (left : IsLeft holds now after (lined holds now n line).state (lined holds now n line).mem)
-      (written : Appends reply full (row_text (lined holds now n line).row)) (short : full.used ≤ reply.used + 30) where
+      (written : Appends reply full (row_text (lined holds now n line).row)) (short : full.used ≤ reply.used + 30)
+      (back : ReadsBack (lined holds now n line).row) where
     k : Going start now begun reply text rest n
     k = going_at start now begun reply text rest from n is-from came
 
@@ -109,6 +115,7 @@ module _ {M : Type 0} (holds : M → Mem) where
           rows = append_assoc k.done row (rows_text r.rows) ∙ ap (λ (a : Ran). k.done ++ rows_text a.rows) (sym is) ∙ k.rows;
           state = ap (λ (a : Ran). a.state) (sym is) ∙ k.state;
           mem = ap (λ (a : Ran). a.mem) (sym is) ∙ k.mem;
+          back = λ rest. k.back (subst (λ (a : Ran). RowsReadBack a.rows) (sym is) (more_read_back worked_now.row r.rows back rest));
           room = omega (arith, k.room);
           count = omega (arith, k.count);
         }
@@ -132,4 +139,5 @@ module _ {M : Type 0} (holds : M → Mem) where
           written = subst (Appends begun full)
               (ap (λ t. k.done ++ t) (sym (append-nil row)) ∙ ap (λ (a : Ran). k.done ++ rows_text a.rows) (sym is) ∙ k.rows)
               (appends_append begun reply full k.done row k.written written);
+          back = k.back (subst (λ (a : Ran). RowsReadBack a.rows) (sym is) (more_read_back worked_now.row [] back none_read_back));
         }

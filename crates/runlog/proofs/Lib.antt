@@ -7,3 +7,4 @@ pub mod Lengths
 pub mod Going
 pub mod Naming
 pub mod Logging
+pub mod Back

@@ -24,7 +24,8 @@ not_digits w e =
     subst (λ (b : Bool). cond (ltb 0 (length w) && (leb (length w) 5 && (b && leb (value w) 65535))) (Some (value w)) None ≡ None) (sym e)
     (none_unless (ltb 0 (length w)) (leb (length w) 5) (leb (value w) 65535) (Some (value w)))
 
-own : IsNumeralModel (λ ds. all_ascii_digits ds ≡ true) (value_after 0)
+-- The value of digits is the library's number.
+pub own : IsNumeralModel (λ ds. all_ascii_digits ds ≡ true) (value_after 0)
 own = numerals_by_fold _ (search rules) value_after (search rules)
 
 -- What `parse` answers for up to five digits.

@@ -23,6 +23,11 @@ lacks_push : (at : ℕ) (xs : List ℕ) (x : ℕ) → lacks at xs ≡ true → e
 lacks_push at [] x p q = rw q
 lacks_push at (y ∷ ys) x p q = and_then (eqb y at) (lacks at ys) (lacks at (ys ++ x ∷ [])) (λ h. lacks_push at ys x h q) p
 
+-- Two texts that lack it, with another byte between.
+pub lacks_join : (at x : ℕ) (a b : List ℕ) → eqb x at ≡ false → lacks at a ≡ true → lacks at b ≡ true → lacks at (a ++ x ∷ b) ≡ true
+lacks_join at x [] b e p q = rw e q
+lacks_join at x (y ∷ ys) b e p q = and_then (eqb y at) (lacks at ys) (lacks at (ys ++ x ∷ b)) (λ h. lacks_join at x ys b e h q) p
+
 -- The loop's step: the byte at i is another.
 lacks_more : (at : ℕ) (xs : List ℕ) (i : ℕ) → i < length xs → lacks at (take i xs) ≡ true → eqb (get_or xs i 0) at ≡ false
     → lacks at (take (i + 1) xs) ≡ true
@@ -146,17 +151,23 @@ none_of_none None one = refl
 none_of_none (Some name) None = refl
 none_of_none (Some name) (Some one) = refl
 
--- A space is no digit.
-either_digit : (x : ℕ) (r d : Bool) → (r ≡ false → d ≡ false) → cond (eqb x space) false r ≡ false → (is_ascii_digit x && d) ≡ false
-either_digit x r d f h =
+-- A byte that is no digit.
+either_digit : (at x : ℕ) (r d : Bool) → is_ascii_digit at ≡ false → (r ≡ false → d ≡ false) → cond (eqb x at) false r ≡ false
+    → (is_ascii_digit x && d) ≡ false
+either_digit at x r d q f h =
     ⊎_elim
-    (λ e. let is : x ≡ space = eqb-true x space e in subst (λ n. (is_ascii_digit n && d) ≡ false) (sym is) refl)
-    (λ e. and_right (is_ascii_digit x) d (f (sym (cond-false (eqb x space) false r e) ∙ h)))
-    (cases_Bool (eqb x space))
+    (λ e. let is : x ≡ at = eqb-true x at e in subst (λ b. (b && d) ≡ false) (sym (ap is_ascii_digit is ∙ q)) refl)
+    (λ e. and_right (is_ascii_digit x) d (f (sym (cond-false (eqb x at) false r e) ∙ h)))
+    (cases_Bool (eqb x at))
 
-no_digits : (t : List ℕ) → lacks space t ≡ false → all_ascii_digits t ≡ false
-no_digits [] h = absurd (false≢true (sym h))
-no_digits (x ∷ xs) h = either_digit x (lacks space xs) (all_ascii_digits xs) (no_digits xs) h
+no_digits : (at : ℕ) (t : List ℕ) → is_ascii_digit at ≡ false → lacks at t ≡ false → all_ascii_digits t ≡ false
+no_digits at [] q h = absurd (false≢true (sym h))
+no_digits at (x ∷ xs) q h = either_digit at x (lacks at xs) (all_ascii_digits xs) q (no_digits at xs q) h
+
+-- Digits lack it.
+pub digits_lack : (at : ℕ) (t : List ℕ) → is_ascii_digit at ≡ false → all_ascii_digits t ≡ true → lacks at t ≡ true
+digits_lack at t q h =
+    ⊎_elim (λ e. e) (λ e. absurd (false≢true (sym (no_digits at t q e) ∙ h))) (cases_Bool (lacks at t))
 
 -- The last number of a line is one word, whether that is tested first or not.
 last_word : (name one two : List ℕ) → call_in (name ∷ one ∷ words two) ≡ call_of (name_of name) (number one) (number two)
@@ -165,7 +176,7 @@ last_word name one two =
     (λ e. ap (λ ps. call_in (name ∷ one ∷ ps)) (word_alone space two e))
     (λ e.
     none_of_many name one (words two) (many_words two e) ∙ sym (none_of_none (name_of name) (number one))
-    ∙ ap (call_of (name_of name) (number one)) (sym (not_digits two (no_digits two e))))
+    ∙ ap (call_of (name_of name) (number one)) (sym (not_digits two (no_digits space two refl e))))
     (cases_Bool (lacks space two))
 
 -- A line with no space.

@@ -7,3 +7,4 @@ pub mod Reply
 pub mod Run
 pub mod Lines
 pub mod Board
+pub mod Back

@@ -1,6 +1,7 @@
 // A module and the memory that it is worked over, lent together.
 ghost use Rattle.std.specs.Prelude.{◌≡◌, ◌+◌, ◌≤◌, length};
 ghost use Rattle.x1226.specs.Step.{told};
+ghost use Rattle.runlog.specs.Back.{ReadsBack, RowsReadBack};
 ghost use Rattle.runlog.specs.Board.{IsLeft, told_of, called, lined, ran, logged};
 ghost use Rattle.runlog.specs.Calls.{calls_of};
 ghost use Rattle.runlog.specs.Lines.{bytes_of, Values};
@@ -61,6 +62,7 @@ impl<M: Memory> Board<'_, M> {
         ensures left { let l = lined M.holds self.old number line.now in IsLeft M.holds self.old self.new l.state l.mem }
         ensures written { Appends reply.old reply.new (row_text (lined M.holds self.old number line.now).row) }
         ensures short { reply.new.used ≤ reply.old.used + most_row }
+        ensures back { ReadsBack (lined M.holds self.old number line.now).row }
     {
         let Some(call) = LineCall::read(line) else {
             reply.row(Row::of(number, self.told(Some(Refusal::Unreadable))));
@@ -76,6 +78,7 @@ impl<M: Memory> Board<'_, M> {
         requires room { rows_room ≤ room_left reply.old }
         ensures left { let r = ran M.holds self.old values.entry.rest.now in IsLeft M.holds self.old self.new r.state r.mem }
         ensures written { Appends reply.old reply.new (rows_text (ran M.holds self.old values.entry.rest.now).rows) }
+        ensures back { RowsReadBack (ran M.holds self.old values.entry.rest.now).rows }
     {
         for (number, line) in (2..).zip(values) {
             if !self.work_line(reply, number, line) {
@@ -90,6 +93,7 @@ impl<M: Memory> Board<'_, M> {
         requires room { rows_room ≤ room_left reply.old }
         ensures left { let r = logged M.holds self.old log.now in IsLeft M.holds self.old self.new r.state r.mem }
         ensures written { Appends reply.old reply.new (rows_text (logged M.holds self.old log.now).rows) }
+        ensures back { RowsReadBack (logged M.holds self.old log.now).rows }
     {
         match values(log) {
             Some(values) => self.work_lines(values, reply),

@@ -54,6 +54,7 @@ pub struct Reply<'a> {
 }
 
 impl Reply<'_> {
+    ghost use Rattle.runlog.specs.Back.{ReadsBack};
     ghost use Rattle.runlog.specs.Reply.{Appends, field, most_field, most_row, room_left, row_text};
 
     // The bytes of a text.
@@ -81,6 +82,7 @@ impl Reply<'_> {
         requires { most_row ≤ room_left self.old }
         ensures written { Appends self.old self.new (row_text row) }
         ensures short { self.new.used ≤ self.old.used + most_row }
+        ensures back { ReadsBack row }
     {
         self.field(row.line, SPACE);
         self.field(u16::from(row.sda), SPACE);
