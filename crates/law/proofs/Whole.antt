@@ -46,7 +46,7 @@ use Rattle.law.proofs.Steps.{left_tracks, told_answers}
 use Rattle.law.proofs.Runs.{first_more}
 use Rattle.law.proofs.Recovery.{frees}
 use Rattle.law.proofs.Heard.{hears_start}
-use Rattle.law.proofs.Shown.{show_agrees, pin_agrees}
+use Rattle.law.proofs.Shown.{show_agrees, pin_agrees, show_unfit, pin_unfit}
 
 -- Dates that wait exist
 
@@ -206,11 +206,11 @@ module _ (was : Mem) (fit : was.fit ≡ true) (sized : length was.bytes ≡ plac
   )
 
   -- What `show` and `pin` answer before the first call and after each.
-  pub places_shown : Shows was calls (shown_after was calls)
+  places_shown : Shows was calls (shown_after was calls)
   places_shown k p l =
       show_agrees was (history_at was calls k) (left was (first k calls)).state (left was (first k calls)).mem (tracked k) p
 
-  pub pins_told : Pins was calls (pin_after was calls)
+  pins_told : Pins was calls (pin_after was calls)
   pins_told k l =
       pin_agrees was (history_at was calls k) (left was (first k calls)).state (left was (first k calls)).mem (tracked k)
 
@@ -225,6 +225,8 @@ module _ (was : Mem) (fit : was.fit ≡ true) (sized : length was.bytes ≡ plac
         dates = dates_exist;
         counts = dates_count;
         keeps = bytes_kept;
+        shows = places_shown;
+        pins = pins_told;
         frees = frees was fit (left_tracks was fit sized) calls rows answers;
         hears_start = hears_start was fit (left_tracks was fit sized) calls rows answers;
       }
@@ -260,6 +262,8 @@ left_unfit was unfit (c ∷ cs) =
 pub replay_unmoved : (n : ℕ) (was : Mem) (calls : List Call) (before after : List Answer) (s : State) (m : Mem)
     → was.fit ≡ false → Replayed n was calls before after s m → Unmoved n was after s m
 replay_unmoved n was calls before after s m unfit r =
+    let same : m ≡ was = r.mem ∙ (left_unfit was unfit (replay.first n calls)).1 in
+    let still : m.fit ≡ false = ap (λ (m : Mem). m.fit) same ∙ unfit in
     record {
       row = λ k l.
           let q : ((left was (replay.first k calls)).state ≡ made) × ((left was (replay.first k calls)).mem ≡ was) = left_unfit was unfit (replay.first k calls) in
@@ -267,5 +271,7 @@ replay_unmoved n was calls before after s m unfit r =
           ∙ ap told (unfit_call (left was (replay.first k calls)).mem (ap (λ (m : Mem). m.fit) q.1 ∙ unfit) (get_or calls k replay.no_call) (left was (replay.first k calls)).state)
           ∙ ap (λ (s : State). told (refused Unfit s was)) q.0;
       state = r.state ∙ (left_unfit was unfit (replay.first n calls)).0;
-      mem = r.mem ∙ (left_unfit was unfit (replay.first n calls)).1;
+      mem = same;
+      show_refused = show_unfit s m still;
+      pin_refused = pin_unfit s m still;
     }

@@ -1,5 +1,5 @@
 -- A run: what the clock and the stored bytes are after each of its calls, and the law of it.
-use Rattle.std.specs.Prelude.{◌≡◌, ℕ, ◌<◌, true, List, Some, Result, slice_index_or}
+use Rattle.std.specs.Prelude.{◌≡◌, ℕ, ◌<◌, true, List, Some, Err, Result, slice_index_or}
 use Rattle.memory.specs.Model.{Mem}
 use Rattle.calendar.specs.declared.clock.Clock.{Clock}
 use Rattle.chip.specs.declared.calls.Answer.{Answer}
@@ -31,10 +31,13 @@ pin_after was calls k = pin (left was (first k calls)).state (left was (first k 
 
 -- The law of a run, whole: `was` is the memory at making, `calls` the calls in their order, `rows` the answers.
 abbrev pub Lawful : Mem → List Call → List Answer → Type 0
-Lawful was calls rows = Law was calls rows (clock_after was calls) (bytes_after was calls)
+Lawful was calls rows =
+    Law was calls rows (clock_after was calls) (bytes_after was calls) (shown_after was calls) (pin_after was calls)
 
--- Over an unfit memory every call is refused by 3, and module and memory stay as they were.
+-- Over an unfit memory every call is refused by 3, the service calls too, and module and memory stay as they were.
 pub record Unmoved (n : ℕ) (was : Mem) (rows : List Answer) (s : State) (m : Mem) : Type 0 where
   pub row : (k : ℕ) → k < n → slice_index_or rows k no_answer ≡ record { sda = true; refusal = Some Unfit }
   pub state : s ≡ made
   pub mem : m ≡ was
+  pub show_refused : (place : ℕ) → show s m place ≡ Err Unfit
+  pub pin_refused : pin s m ≡ Err Unfit

@@ -13,8 +13,9 @@ use x1226::{Module, replay};
 //
 // Over a fit memory the whole law of a run holds (`lawful`): every call answers as the rules say; the clock always holds a date that
 // exists, the one last taken over and one second more for each second mark since; a stored byte changes exactly at a stop that closes a
-// lawful write which last sends its place another byte; ten pulses with SDA released free the wire, and a start is then heard. Module
-// and memory at the end are those of the calls one after the other (`replayed`). An unfit memory refuses every call (`unmoved`).
+// lawful write which last sends its place another byte; before the first call and after each, what `show` and `pin` answer is what the
+// rules say of registers, flags, latches and pin; ten pulses with SDA released free the wire, and a start is then heard. Module and
+// memory at the end are those of the calls one after the other (`replayed`). An unfit memory refuses every call (`unmoved`).
 pub fn run<M: Memory>(memory: &mut M, calls: &[Call], rows: &mut [Answer]) -> Module
     ensures lawful { (M.holds memory.old).fit ≡ true → Lawful (M.holds memory.old) (take (min (length calls.now) (length rows.old)) calls.now) rows.new }
     ensures replayed { Replayed (min (length calls.now) (length rows.old)) (M.holds memory.old) calls.now rows.old rows.new result.state (M.holds memory.new) }

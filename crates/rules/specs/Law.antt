@@ -159,8 +159,9 @@ Hears was calls rows =
     → count_from (falls_at was calls) (i + n + 1) m ≡ 0
     → (get_or rows (i + n + m) no_answer).sda ≡ false
 
--- The law, whole. `rows` are the answers, `clock_after k` and `bytes_after k` the clock and the stored bytes after the first k calls.
-pub record Law (was : Mem) (calls : List Call) (rows : List Answer) (clock_after : ℕ → Clock) (bytes_after : ℕ → List ℕ) : Type 0 where
+-- The law, whole. `rows` are the answers; after the first k calls `clock_after k` and `bytes_after k` are the clock and the stored bytes,
+-- `shown_after k place` is what a board is shown at a place, and `pin_after k` what it is told of the pin.
+pub record Law (was : Mem) (calls : List Call) (rows : List Answer) (clock_after : ℕ → Clock) (bytes_after : ℕ → List ℕ) (shown_after : ℕ → ℕ → Result ℕ Refusal) (pin_after : ℕ → Result Pin Refusal) : Type 0 where
   -- every call answers as the rules say
   pub answers : Answers was calls rows
   -- the clock always holds a date that exists
@@ -169,6 +170,10 @@ pub record Law (was : Mem) (calls : List Call) (rows : List Answer) (clock_after
   pub counts : Counts was calls clock_after
   -- a stored byte changes exactly at a stop that closes a lawful write which last sends its place another byte
   pub keeps : Keeps was calls bytes_after
+  -- every place shows what the rules say: stored bytes, clock and status, with its flags and latches
+  pub shows : Shows was calls shown_after
+  -- the pin does what the rules say
+  pub pins : Pins was calls pin_after
   -- ten clock pulses with SDA released include one with the wire high
   pub frees : Frees was calls rows
   -- a start is heard: whichever of our slave bytes is sent next is acknowledged
