@@ -8,6 +8,7 @@ use memory::{Image, Memory, factory_bytes};
 use runlog::{LEAST_REPLY, MOST_LOG, run_log};
 use std::alloc::AllocError;
 use std::io::{Read, Write};
+use std::process::ExitCode;
 use std::rt::Env;
 use std::{env, fmt, io};
 use x1226::Module;
@@ -58,11 +59,12 @@ impl fmt::Display for Trouble {
 
 impl Trouble {
     /// A refusal is an answer, and no error of the program's.
-    fn ending(self) -> io::Result<()> {
+    fn status(&self) -> ExitCode {
         match self {
-            Trouble::Refused(_) => Ok(()),
-            Trouble::Input(error) | Trouble::Output(error) => Err(error),
-            Trouble::Arguments | Trouble::Memory => Err(io::Error::from(io::ErrorKind::Other)),
+            Trouble::Refused(_) => ExitCode::SUCCESS,
+            Trouble::Arguments | Trouble::Memory | Trouble::Input(_) | Trouble::Output(_) => {
+                ExitCode::FAILURE
+            }
         }
     }
 }
@@ -125,10 +127,10 @@ fn work(rt: &(impl Input + Print + Env + AllocGlobal)) -> Result<(), Trouble> {
     }
 }
 
-fn main(rt: HostRuntime) -> io::Result<()> {
+fn main(rt: HostRuntime) -> io::Result<ExitCode> {
     let Err(trouble) = work(&rt) else {
-        return Ok(());
+        return Ok(ExitCode::SUCCESS);
     };
     eprintln!(rt; "{trouble}")?;
-    trouble.ending()
+    Ok(trouble.status())
 }
