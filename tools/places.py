@@ -20,12 +20,20 @@ import sys
 ROOT = pathlib.Path(__file__).resolve().parent.parent
 
 
-def sources(crates):
+def files(crates, folder, names):
     for crate in sorted((ROOT / "crates").iterdir()):
         if crates and crate.name not in crates:
             continue
-        for path in sorted((crate / "src").rglob("*.rt")):
+        for path in sorted((crate / folder).rglob(names)):
             yield path, path.read_text().split("\n")
+
+
+def sources(crates):
+    return files(crates, "src", "*.rt")
+
+
+def code_sources(crates):
+    return ((path, lines) for path, lines in sources(crates) if not is_test(path))
 
 
 def is_test(path):
@@ -79,9 +87,7 @@ KEPT = {"if", "else", "match", "for", "in", "while", "let", "mut", "return", "se
 def twins(crates):
     shapes = collections.defaultdict(list)
     structs = collections.defaultdict(list)
-    for path, lines in sources(crates):
-        if is_test(path):
-            continue
+    for path, lines in code_sources(crates):
         for n, name, _, body in functions(path, lines):
             if body:
                 shapes[(path.parts[-3], shape(body))].append((path, n, name))
@@ -104,9 +110,7 @@ def clause_key(clause):
 def facts(crates):
     clauses = collections.defaultdict(set)
     pairs = collections.defaultdict(set)
-    for path, lines in sources(crates):
-        if is_test(path):
-            continue
+    for path, lines in code_sources(crates):
         for n, name, head, _ in functions(path, lines):
             place = (path, n, name)
             for line in head:
@@ -127,14 +131,11 @@ def facts(crates):
 
 
 def proofs(crates):
-    for crate in sorted((ROOT / "crates").iterdir()):
-        if crates and crate.name not in crates:
-            continue
-        for path in sorted((crate / "proofs").rglob("*.antt")):
-            for n, line in enumerate(path.read_text().split("\n"), 1):
-                found = re.match(r"(?:abbrev )?(?:pub )?([\w'-]+) : ", line)
-                if found and not line.startswith(" "):
-                    yield path, n, found.group(1)
+    for path, lines in files(crates, "proofs", "*.antt"):
+        for n, line in enumerate(lines, 1):
+            found = re.match(r"(?:abbrev )?(?:pub )?([\w'-]+) : ", line)
+            if found and not line.startswith(" "):
+                yield path, n, found.group(1)
 
 
 POINTS = {
