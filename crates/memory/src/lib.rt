@@ -26,7 +26,8 @@ pub trait Memory {
 
     /// Whether the memory is fit. An unfit memory refuses all else.
     fn is_fit(&self) -> bool
-        ensures answer { result ≡ (holds self.now).fit };
+        ensures answer { result ≡ (holds self.now).fit }
+        ensures whole { result ≡ true → Whole (holds self.now) };
 
     /// The byte at a place.
     fn read(&self, place: usize) -> Result<u8, Refusal>
@@ -42,6 +43,6 @@ pub trait Memory {
         ensures answer { result ≡ write (holds self.old) place }
         ensures after { holds self.new ≡ written (holds self.old) place byte };
 
-    // A fit memory has one byte for each place.
+    // A fit memory has one byte for each place. `is_fit` says so too, since of a memory behind a `dyn` no law is known.
     ghost whole: { (s : Self) → (holds s).fit ≡ true → Whole (holds s) };
 }
