@@ -1,11 +1,12 @@
 -- What the bytes of an image are after a read and a write.
-use Rattle.std.proofs.Common.{◌≡◌, ℕ, ◌-◌, ◌%◌, ◌<◌, ◌≤◌, true, List, map, length, get_or, take, set, Ok, sym, ap, ◌∙◌, mod-eq_of_lt, arith}
-use Rattle.std.proofs.Math.Seq.{take-set-lt}
-use Rattle.std.proofs.lemmas.List.{length-take, get_or-map, get_or-take, map-set, length-set}
+use Rattle.std.proofs.Common.{◌≡◌, ℕ, ◌-◌, ◌%◌, ◌<◌, ◌≤◌, true, List, map, length, get_or, take, set, Ok, sym, ap, ◌∙◌, ⊎_elim, mod-lt, mod-eq_of_lt, arith}
+use Rattle.std.proofs.lemmas.List.{length-map, length-take, get_or-map, get_or-take, get_or_past, map-set, length-set}
+use Rattle.std.proofs.lemmas.Bool.{cases_lt, cond_both}
 use Rattle.std.proofs.lemmas.Bool.Decides.{nat_tests}
 use Rattle.memory.specs.Sizes.{places, byte_values}
 use Rattle.memory.specs.Model.{place_check, write, with_byte}
 use Rattle.memory.specs.Image.{image, image_fit, image_bytes}
+use Rattle.memory.proofs.Places.{take_of_set}
 use Rattle.memory.proofs.Rules.{place_passed, write_passed}
 
 -- A fit image has a byte for each place.
@@ -19,11 +20,28 @@ image_at bs place low within =
     let inside : place < length (take places bs) = simp length-take (omega arith) in
     get_or-map (λ b. b % byte_values) (take places bs) place 0 0 inside ∙ ap (λ b. b % byte_values) (get_or-take places bs place 0 low)
 
--- A byte that is set in the image is set in the memory.
-pub image_set : (bs : List ℕ) (place byte : ℕ) → place < places → byte < byte_values → image_bytes (set bs place byte) ≡ set (image_bytes bs) place byte
+-- The image has a byte for each place that there are bytes for, and each is a byte.
+pub image_sized : (bs : List ℕ) → places ≤ length bs → length (image_bytes bs) ≡ places
 unfolding image_bytes
-image_set bs place byte low small =
-    ap (map (λ b. b % byte_values)) (take-set-lt places bs place byte low)
+image_sized bs long = simp (length-map, length-take) (omega arith)
+
+pub image_small : (bs : List ℕ) (place : ℕ) → get_or (image_bytes bs) place 0 < byte_values
+unfolding image_bytes
+image_small bs place =
+    ⊎_elim
+    (λ inside. rw (get_or-map (λ b. b % byte_values) (take places bs) place 0 0 inside) (mod-lt (get_or (take places bs) place 0) (omega arith)))
+    (λ past. rw (get_or_past (map (λ b. b % byte_values) (take places bs)) place 0 (simp length-map past)) (omega arith))
+    (cases_lt place (length (take places bs)))
+
+-- An image with life has writes left.
+pub image_life : (bs : List ℕ) (n : ℕ) → 0 < (image bs n).life → 0 < n
+image_life bs n alive = cond_both (image_fit bs n) n 0 (λ l. 0 < l → 0 < n) (λ _ h. h) (λ _ h. absurd (omega arith)) alive
+
+-- A byte that is set in the image is set in the memory.
+pub image_set : (bs : List ℕ) (place byte : ℕ) → byte < byte_values → image_bytes (set bs place byte) ≡ set (image_bytes bs) place byte
+unfolding image_bytes
+image_set bs place byte small =
+    ap (map (λ b. b % byte_values)) (take_of_set places bs place byte)
     ∙ map-set (λ b. b % byte_values) (take places bs) place byte
     ∙ ap (set (map (λ b. b % byte_values) (take places bs)) place) (mod-eq_of_lt small)
 
@@ -37,7 +55,7 @@ pub image_put : (bs : List ℕ) (n place byte : ℕ) → byte < byte_values → 
 image_put bs n place byte small passed =
     let known = write_passed (image bs n) place passed in
     let after = image_fit_less bs n place byte known.0 in
-    let same = image_set bs place byte known.1 small in
+    let same = image_set bs place byte small in
     cc
 
 -- A byte that is read from a fit image.

@@ -55,7 +55,7 @@ bytes_of_records bs long small =
 
 -- One record more, where there is room.
 module _ (ws : List ℕ) (place byte : ℕ) (tidy : is_orderly ws ≡ true) (room : used_words ws < length ws) (low : place < places) (small : byte < byte_values) where
-  appended_laid : Laid (set ws (used_words ws) (record_word place byte)) (records ws ++ (record_word place byte ∷ []))
+  pub appended_laid : Laid (set ws (used_words ws) (record_word place byte)) (records ws ++ (record_word place byte ∷ []))
   appended_laid =
       let laid = laid_of ws tidy in
       let u = laid_used ws (records ws) laid in

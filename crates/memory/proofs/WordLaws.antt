@@ -1,5 +1,5 @@
 -- Records, then blanks: what the words of a journal hold, and what a record more makes of them.
-use Rattle.std.proofs.Common.{◌≡◌, ℕ, zero, suc, ◌+◌, ◌-◌, ◌<◌, ◌≤◌, Bool, true, cond, eqb, List, [], ◌∷◌, ◌++◌, length, get_or, take, drop, set, replicate, sym, refl, ap, ◌∙◌, arith}
+use Rattle.std.proofs.Common.{◌≡◌, ℕ, zero, suc, ◌+◌, ◌-◌, ◌<◌, ◌≤◌, Bool, true, false, cond, ◌&&◌, eqb, List, [], ◌∷◌, ◌++◌, length, get_or, take, drop, set, replicate, sym, refl, ap, ◌∙◌, arith}
 use Rattle.std.specs.List.{prefix_len}
 use Rattle.std.proofs.lemmas.List.{length-take, length-drop, length-set, length-append, length_push, take_at, take-append-drop, drop_at, set_at, append_assoc, get_or-take}
 use Rattle.std.proofs.lemmas.List.Folds.{length-prefix_len, prefix_len-append}
@@ -85,3 +85,12 @@ laid_of ws tidy =
       proper = leading_all is_record (records ws) (λ k below. used_is_record ws n k refl below);
       shape = sym (take-append-drop n ws) ∙ ap (λ xs. take n ws ++ xs) (blanks_are (drop n ws) tidy ∙ ap (λ k. replicate k blank) rest);
     }
+
+-- Blanks and one word more are blanks where that is one.
+pub blanks_push : (xs : List ℕ) (x : ℕ) → blanks (xs ++ (x ∷ [])) ≡ (blanks xs && eqb x blank)
+blanks_push [] x = elim (eqb x blank) as (λ b. (b && true) ≡ b) [ true ↦ refl | false ↦ refl ]
+blanks_push (y ∷ ys) x = elim (eqb y blank) as (λ b. (b && blanks (ys ++ (x ∷ []))) ≡ ((b && blanks ys) && eqb x blank)) [ true ↦ blanks_push ys x | false ↦ refl ]
+
+-- A blank word keeps the order.
+pub and_blank : (tidy : Bool) (word : ℕ) → word ≡ blank → tidy ≡ (tidy && eqb word blank)
+and_blank tidy word is = rw (eq-eqb word blank is) (elim tidy as (λ b. b ≡ (b && true)) [ true ↦ refl | false ↦ refl ])

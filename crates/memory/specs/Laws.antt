@@ -43,6 +43,10 @@ folded_small (word ∷ words) place byte small =
     folded_small words place (replaced place byte word)
     (cond_both (word / byte_values == place) (word % byte_values) byte (λ b. b < byte_values) (λ _. remainder_small word) (λ _. small))
 
+-- The byte at a place is a byte.
+pub byte_at_small : (words : List ℕ) (place : ℕ) → byte_at words place < byte_values
+byte_at_small words place = folded_small words place (factory place) (factory_small place)
+
 -- Records give bytes.
 pub bytes_small : (records : List ℕ) (place : ℕ) → slice_index (bytes_of records) place < byte_values
 unfolding bytes_of
