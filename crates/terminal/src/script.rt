@@ -1,5 +1,5 @@
 // A script: the calls that the terminal makes, in their order.
-ghost use Rattle.std.specs.Prelude.{◌≡◌, [], length};
+ghost use Rattle.std.specs.Prelude.{◌≡◌, ◌<◌, ◌^◌, [], length};
 ghost use Rattle.terminal.specs.Calls.{added, nine, received, release_calls, reply_level, restart_calls, sent, start_calls, stop_calls, supply_calls};
 
 use chip::calls::{Call, Supply};
@@ -58,7 +58,8 @@ impl Script {
 
     // The number of calls: the row of the next one.
     pub fn mark(&self) -> usize
-        ensures { result ≡ length self.now }
+        ensures row { result ≡ length self.now }
+        ensures small { result < 2 ^ 63 }
     {
         self.calls.len()
     }

@@ -7,6 +7,20 @@ use chip::slaves::Area;
 use memory::{Image, Memory, factory_bytes};
 use std::test::Fail;
 
+// The row behind that of the next call; there always is such a number.
+fn row_behind(script: &Script) -> usize {
+    script.mark() + 1
+}
+
+#[test]
+fn a_mark_can_be_counted_on_from(rt: HostRuntime) -> Result<(), Fail> {
+    let mut script = Script::new(rt.alloc());
+    script.supply(Supply::Main)?;
+    script.start()?;
+    assert_eq!(rt; row_behind(&script), 3);
+    Ok(())
+}
+
 // A byte stored at address 40h is read back; without WEL the write is not acknowledged.
 #[test]
 fn stores_and_reads(rt: HostRuntime) -> Result<(), Fail> {
