@@ -1,17 +1,32 @@
 -- Numbers of a log.
-use Rattle.std.proofs.Common.{◌≡◌, ℕ, ◌<◌, ◌≤◌, Bool, true, false, cond, ◌&&◌, ltb, leb, List, [], ◌∷◌, length, Ok, Err, Some, None, Option, Result, sym, refl, ap, ◌∙◌, subst, ◌^◌, ⊎_elim, arith, rules, MatchResult}
-use Rattle.std.specs.Borrow.{Bor}
-use Rattle.std.specs.Result.{result_ok}
-use Rattle.std.specs.List.{list_all}
+use Rattle.std.proofs.Common.{◌≡◌, ℕ, ◌+◌, ◌-◌, ◌*◌, ◌^◌, ◌<◌, ◌≤◌, Bool, true, false, cond, ◌&&◌, eqb, ltb, leb, List, length, get_or, drop, Some, None, Option, sym, refl, ap, ◌∙◌, subst, pow-suc, add-one, arith, lit<, rules}
+use native.Mathlib.Nat.{pow-le-pow_right}
 use Rattle.std.specs.Char.{is_ascii_digit}
-use Rattle.std.specs.Str.{all_ascii_digits, IsUtf8}
-use Rattle.std.specs.Str.Parse.{ParsesUnsigned}
-use Rattle.std.proofs.lemmas.Bool.Decides.{nat_tests}
-use Rattle.std.proofs.lemmas.Bool.{cases_lt}
-use Rattle.std.proofs.lemmas.Fmt.{IsAscii-from_digits}
-use Rattle.std.proofs.lemmas.Str.{IsUtf8-from_ascii}
-use Rattle.std.proofs.lemmas.Str.Parse.{IsNumeralModel, numerals_by_fold, parse_digits}
+use Rattle.std.specs.Str.{all_ascii_digits}
+use Rattle.std.proofs.lemmas.List.{at_drop_more, drop_all}
+use Rattle.std.proofs.lemmas.Bool.{lt-ltb, lt-leb, le-leb, eqb-false}
+use Rattle.std.proofs.lemmas.Str.Parse.{IsNumeralModel, numerals_by_fold}
 use Rattle.runlog.specs.Numbers.{value_after, value, number}
+
+-- One digit more.
+pub value_more : (n : ℕ) (w : List ℕ) (i : ℕ) → i < length w
+    → value_after n (drop i w) ≡ value_after (10 * n + (get_or w i 0 - 48)) (drop (i + 1) w)
+value_more n w i l = at_drop_more (value_after n) w i 0 l
+
+-- The digits from i on are digits where the one at i is and those after it are.
+pub digits_more : (w : List ℕ) (i : ℕ) → i < length w → is_ascii_digit (get_or w i 0) ≡ true → all_ascii_digits (drop i w) ≡ all_ascii_digits (drop (i + 1) w)
+digits_more w i l d = at_drop_more all_ascii_digits w i 0 l ∙ ap (λ b. b && all_ascii_digits (drop (i + 1) w)) d
+
+digits_end : (w : List ℕ) (i : ℕ) → i < length w → is_ascii_digit (get_or w i 0) ≡ false → all_ascii_digits (drop i w) ≡ false
+digits_end w i l d = at_drop_more all_ascii_digits w i 0 l ∙ ap (λ b. b && all_ascii_digits (drop (i + 1) w)) d
+
+-- A value of i digits stays below the power of ten.
+pub grows : (v d i : ℕ) → v < 10 ^ i → d ≤ 9 → 10 * v + d < 10 ^ (i + 1)
+grows v d i h k = let p : 10 ^ (i + 1) ≡ 10 ^ i * 10 = rw add-one (pow-suc 10 i) in omega arith
+
+-- Up to five digits the value fits.
+pub small : (v i : ℕ) → v < 10 ^ i → i ≤ 5 → v < 100000
+small v i h k = let p : 10 ^ i ≤ 10 ^ 5 = pow-le-pow_right (lit< tt) k in omega arith
 
 none_unless : (a b d : Bool) (x : Option ℕ) → cond (a && (b && (false && d))) x None ≡ None
 none_unless true true d x = refl
@@ -24,41 +39,32 @@ not_digits w e =
     subst (λ (b : Bool). cond (ltb 0 (length w) && (leb (length w) 5 && (b && leb (value w) 65535))) (Some (value w)) None ≡ None) (sym e)
     (none_unless (ltb 0 (length w)) (leb (length w) 5) (leb (value w) 65535) (Some (value w)))
 
+-- A byte that is no digit makes no number.
+pub no_digit : (w : List ℕ) (i : ℕ) → i < length w → is_ascii_digit (get_or w i 0) ≡ false → all_ascii_digits (drop i w) ≡ all_ascii_digits w → None ≡ number w
+no_digit w i l d e = sym (not_digits w (sym e ∙ digits_end w i l d))
+
+number_by : (w : List ℕ) (v : ℕ) → 0 < length w → length w ≤ 5 → all_ascii_digits w ≡ true → value w ≡ v → number w ≡ cond (leb v 65535) (Some v) None
+number_by w v some few digits e =
+    let a : ltb 0 (length w) ≡ true = lt-ltb 0 (length w) some in
+    let b : leb (length w) 5 ≡ true = le-leb (length w) 5 few in
+    rw (a, b, digits, e) refl
+
+-- A word of one to five digits, all read to a value.
+module _ (w : List ℕ) (v i : ℕ) (some : false ≡ eqb (length w) 0) (few : length w ≤ 5) (over : length w ≤ i)
+    (e : value_after v (drop i w) ≡ value w) (d : all_ascii_digits (drop i w) ≡ all_ascii_digits w) where
+  number_is : number w ≡ cond (leb v 65535) (Some v) None
+  number_is =
+      number_by w v (omega (arith, eqb-false (length w) 0 (sym some))) few (sym d ∙ ap all_ascii_digits (drop_all i w over))
+      (sym e ∙ ap (value_after v) (drop_all i w over))
+
+  -- It is too large.
+  pub too_large : 65535 < v → None ≡ number w
+  too_large h = let b : leb v 65535 ≡ false = lt-leb v 65535 h in sym (number_is ∙ rw b)
+
+  -- It is the number.
+  pub the_number : v ≤ 65535 → Some v ≡ number w
+  the_number h = let b : leb v 65535 ≡ true = le-leb v 65535 h in sym (number_is ∙ rw b)
+
 -- The value of digits is the library's number.
 pub own : IsNumeralModel (λ ds. all_ascii_digits ds ≡ true) (value_after 0)
 own = numerals_by_fold _ (search rules) value_after (search rules)
-
--- What `parse` answers for up to five digits.
-parsed : {E : Type 0} (w : List ℕ) (r : Result ℕ E) → length w ≤ 5 → all_ascii_digits w ≡ true → ParsesUnsigned 16 10 w r → result_ok r ≡ number w
-parsed {E = E} w (Ok x) few digits h =
-    let k : (0 < length w × (value w < 2 ^ 16)) × (x ≡ value w) = parse_digits own {E = E} 16 w (Ok x) h digits in
-    let some : 0 < length w = k.0.0 in
-    let small : value w < 65536 = k.0.1 in
-    let is : x ≡ value w = k.1 in
-    grind (arith, nat_tests)
-parsed {E = E} w (Err e) few digits h =
-    let k : ¬ (0 < length w × (value w < 2 ^ 16)) = parse_digits own {E = E} 16 w (Err e) h digits in
-    ⊎_elim
-    (λ some. ⊎_elim (λ small. absurd (k (some, omega arith))) (λ large. grind (arith, nat_tests)) (cases_lt (value w) 65536))
-    (λ none. grind (arith, nat_tests))
-    (cases_lt 0 (length w))
-
--- Digits are text.
-pub digits_text : {A E : Type 0} (w : List ℕ) (r : Result A E) (P : A → Type 0) (Q : E → Type 0) → all_ascii_digits w ≡ true
-    → MatchResult r P (λ e. ¬ (IsUtf8 w) × Q e) → None ≡ result_ok r → ⊥
-digits_text w (Ok s) P Q h k none = cc
-digits_text w (Err e) P Q h k none = k.0 (IsUtf8-from_ascii w (IsAscii-from_digits w (own.to w h)))
-
--- The text of a word is its bytes.
-pub text_same : {E : Type 0} (U : Type 0) (w : List ℕ) (r : Result (Bor (List ℕ)) E) (Q : E → Type 0) (s : Bor (List ℕ))
-    → MatchResult r (λ t. (t.now ≡ w) × U) Q → Some s ≡ result_ok r → s.now ≡ w
-text_same U w (Ok t) Q s k is = let same : s ≡ t = cc in ap (λ (x : Bor (List ℕ)). x.now) same ∙ k.0
-text_same U w (Err e) Q s k is = cc
-
-pub number_parsed : {E : Type 0} (w s : List ℕ) (r : Result ℕ E) → s ≡ w → length w ≤ 5 → all_ascii_digits w ≡ true → ParsesUnsigned 16 10 s r
-    → result_ok r ≡ number w
-number_parsed {E = E} w s r same few digits h = parsed w r few digits (subst (λ t. ParsesUnsigned {E = E} 16 10 t r) same h)
-
-pub digits_all : (w : List ℕ) → list_all is_ascii_digit w ≡ all_ascii_digits w
-digits_all [] = refl
-digits_all (x ∷ xs) = ap (λ b. is_ascii_digit x && b) (digits_all xs)

@@ -29,7 +29,7 @@ lacks_join at x [] b e p q = rw e q
 lacks_join at x (y ∷ ys) b e p q = and_then (eqb y at) (lacks at ys) (lacks at (ys ++ x ∷ b)) (λ h. lacks_join at x ys b e h q) p
 
 -- The loop's step: the byte at i is another.
-lacks_more : (at : ℕ) (xs : List ℕ) (i : ℕ) → i < length xs → lacks at (take i xs) ≡ true → eqb (get_or xs i 0) at ≡ false
+pub lacks_more : (at : ℕ) (xs : List ℕ) (i : ℕ) → i < length xs → lacks at (take i xs) ≡ true → eqb (get_or xs i 0) at ≡ false
     → lacks at (take (i + 1) xs) ≡ true
 lacks_more at xs i l p q = rw (take_more xs i 0 l) (lacks_push at (take i xs) (get_or xs i 0) p q)
 
@@ -196,3 +196,7 @@ three_words t name rest one two e f =
     (ap words e.0 ∙ pieces_cut space ([] ∷ []) name rest e.1
     ∙ ap (λ ps. name ∷ ps) (ap words f.0 ∙ pieces_cut space ([] ∷ []) one two f.1))
     ∙ last_word name one two
+
+-- What is taken from the first byte on.
+pub from_first : (P : List ℕ → Type 0) (xs : List ℕ) (i : ℕ) → P (take i xs) → P (take (i - 0) xs)
+from_first P xs i p = let none : i ≡ i - 0 = omega arith in subst (λ n. P (take n xs)) none p

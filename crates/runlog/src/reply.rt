@@ -1,9 +1,8 @@
 // The reply to a log: its rows, and the room that they are written to.
-ghost use Rattle.std.specs.Prelude.{◌≡◌, ◌+◌, ◌≤◌, length};
+ghost use Rattle.std.specs.Prelude.{◌≡◌, ◌+◌, ◌≤◌, decimal, length};
 
 use crate::lines::{LF, SPACE};
 use chip::calls::Answer;
-use itoa::Buffer;
 
 // A row of the reply: the number of the line, the level on SDA after it, and its refusal with area and address, or zeros.
 // Each is a number, since that is what a column of the reply holds.
@@ -67,13 +66,25 @@ impl Reply<'_> {
         self.used = end;
     }
 
+    // A number in decimal: the digits before its last one, if there are any, and then that. By hand, since the kit's `itoa` would be one
+    // crate more to trust.
+    fn number(&mut self, n: u16)
+        requires { length (decimal n) ≤ room_left self.old }
+        ensures { Appends self.old self.new (decimal n) }
+    {
+        if n >= 10 {
+            self.number(n / 10);
+        }
+        self.text(&[b'0' + (n % 10) as u8]);
+    }
+
     // A number in decimal, and the byte that ends it.
     fn field(&mut self, number: u16, end: u8)
         requires { most_field ≤ room_left self.old }
         ensures written { Appends self.old self.new (field number end) }
         ensures short { self.new.used ≤ self.old.used + most_field }
     {
-        self.text(Buffer::new().format(number).as_bytes());
+        self.number(number);
         self.text(&[end]);
     }
 
