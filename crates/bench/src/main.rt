@@ -84,7 +84,8 @@ impl From<Refusal> for Trouble {
 /// Reads a log up to its end, or up to the first byte that makes it too long.
 fn read_log(rt: &(impl Input + AllocGlobal)) -> Result<Vec<u8>, Trouble> {
     let most = MOST_LOG + 1;
-    let mut log = Vec::with_capacity(rt.alloc(), most)?;
+    // One byte more than is read, so that the read that finds the end asks for no more room.
+    let mut log = Vec::with_capacity(rt.alloc(), most + 1)?;
     rt.reader()
         .take(most as u64)
         .read_to_end(&mut log)
@@ -106,10 +107,10 @@ fn put(rt: &impl Print, text: &[u8]) -> Result<(), Trouble> {
     io::writer(rt).write_all(text).map_err(Trouble::Output)
 }
 
-/// Works the log on standard input.
+/// Works the log on standard input. All the room is there before a byte is read.
 fn bench(rt: &(impl Input + Print + AllocGlobal)) -> Result<(), Trouble> {
-    let log = read_log(rt)?;
     let mut reply = vec![in rt.alloc(); 0u8; LEAST_REPLY]?;
+    let log = read_log(rt)?;
     let written = answer(&log, &mut reply)?;
     put(rt, &reply[..written])
 }
