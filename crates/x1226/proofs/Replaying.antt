@@ -1,5 +1,5 @@
 -- One call more of a list that is worked.
-use Rattle.std.proofs.Common.{◌≡◌, ℕ, ◌+◌, ◌<◌, ◌≢◌, List, [], ◌∷◌, reverse, length, get_or, take, drop, set, sym, refl, ap, ◌∙◌, arith, get_or-set_other, get_or-set_same, below_more, add-one, length-drop, drop-cons}
+use Rattle.std.proofs.Common.{◌≡◌, ℕ, ◌+◌, ◌<◌, ◌≢◌, List, [], ◌∷◌, reverse, length, get_or, take, drop, set, sym, refl, ap, ◌∙◌, subst, arith, get_or-set_other, get_or-set_same, below_more, add-one, length-drop, drop-cons}
 use mathlib.Core.List.{reverse-append}
 use Rattle.std.proofs.lemmas.List.{take_more}
 use Rattle.memory.specs.Model.{Mem}
@@ -52,3 +52,8 @@ replayed_more k was calls before rows s s' m m' row more room state mem answer s
           (get_or-set_same rows k row no_row room ∙ answer ∙ ap told same);
       rest = λ j above. let other : j ≢ k = omega arith in get_or-set_other rows k j row no_row other ∙ so.rest j (omega arith);
     }
+
+-- Where all are worked that there are calls and rows for.
+pub replayed_whole : (k n : ℕ) (was : Mem) (calls : List Call) (before after : List Answer) (s : State) (m : Mem)
+    → Replayed k was calls before after s m → k ≡ n → Replayed n was calls before after s m
+replayed_whole k n was calls before after s m so e = subst (λ j. Replayed j was calls before after s m) e so

@@ -7,6 +7,7 @@ use chip::calls::{Answer, Call};
 use memory::Memory;
 
 // Makes a module over a memory and works calls on it in order, each with its row of answers; as many as there are rows for.
+#[tactic(auto, using(crate::proofs::Replaying::replayed_whole))]
 pub fn replay<M: Memory>(memory: &mut M, calls: &[Call], rows: &mut [Answer]) -> Module
     ensures { Replayed (min (length calls.now) (length rows.old)) (M.holds memory.old) calls.now rows.old rows.new result.state (M.holds memory.new) }
 {

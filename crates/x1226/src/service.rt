@@ -90,10 +90,13 @@ impl State {
     pub fn pin<M: Memory>(&self, memory: &M) -> Result<Pin, Refusal>
         ensures { result ≡ pin self.now (M.holds memory.now) }
     {
-        let int = interrupt_byte(memory)?;
+        if !memory.is_fit() {
+            return Err(Refusal::Unfit);
+        }
+        // INT is read only where it counts: a journal walks all its records for it.
         match self.supply {
             Supply::Off => Ok(Pin::Released),
-            Supply::Main | Supply::Battery => Ok(self.pin_by(int)),
+            Supply::Main | Supply::Battery => Ok(self.pin_by(interrupt_byte(memory)?)),
         }
     }
 }

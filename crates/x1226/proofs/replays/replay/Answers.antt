@@ -1,5 +1,4 @@
-use Rattle.std.proofs.Common.{◌≡◌, min, length, sym, refl, ap, ◌∙◌, subst, arith}
-use Rattle.x1226.specs.Replay.{Replayed}
+use Rattle.std.proofs.Common.{sym, refl, ap, ◌∙◌, arith}
 use Rattle.x1226.specs.Step.{told, worked}
 use Rattle.x1226.proofs.Replaying.{replayed_none, replayed_more, next_of}
 use Rattle.x1226.proofs.replays.replay.Goals as goal
@@ -26,12 +25,3 @@ loop-row-preserved g c =
           c.loop-row.invariant.0,
       (next.later_is, omega (arith, next.below)),
     )
-
-pub returns-after-loop-row : goal.returns-after-loop-row
-returns-after-loop-row g c =
-    let holds = g.M.Memory.holds in
-    let was = holds c.args.memory.now in
-    let k = c.loop-row.row-index in
-    let all : k ≡ min (length c.args.calls.now) (length c.args.rows.now) = omega (arith, c.loop-row.invariant.1.1) in
-    subst (λ n. Replayed n was c.args.calls.now c.args.rows.now c.loop-row.rows c.loop-row.module.state (holds c.loop-row.memory))
-    all c.loop-row.invariant.0
