@@ -7,10 +7,28 @@ ghost use Rattle.chip.specs.Registers.{section_of, first_of, length_of, next_in,
 use crate::counter::Address;
 use crate::pages::next_in;
 use crate::slaves::Area;
+use calendar::Register;
 use std::ops::Range;
 
 // The register addresses, most of them empty.
 pub const REGISTER_SPACE: u16 = 64;
+
+// The clock's registers, as the calendar numbers them.
+pub const SECONDS: u8 = Register::Seconds as u8;
+
+pub const MINUTES: u8 = Register::Minutes as u8;
+
+pub const HOURS: u8 = Register::Hours as u8;
+
+pub const DATE: u8 = Register::Date as u8;
+
+pub const MONTH: u8 = Register::Month as u8;
+
+pub const YEAR: u8 = Register::Year as u8;
+
+pub const WEEKDAY: u8 = Register::Weekday as u8;
+
+pub const CENTURY: u8 = Register::Century as u8;
 
 // Registers that lie together: an address moves only inside its section.
 #[derive(Clone, Copy, PartialEq, Eq, Debug)]
