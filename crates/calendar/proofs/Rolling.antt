@@ -46,6 +46,10 @@ only s r periods h = ⊎_elim early over (cases_lt s 6311433600)
     over : 6311433600 ≤ s → r ≡ rolled s
     over more = omega (arith, rolled_after s more)
 
+-- A number rolled is below the first second of 2100.
+pub rolled_small : (s : ℕ) → rolled s < 6311433600
+rolled_small s = (rolls s).1.small
+
 -- To go on from where the number rolled to is to go on.
 pub rolled_on : (s n : ℕ) → rolled (rolled s + n) ≡ rolled (s + n)
 rolled_on s n =

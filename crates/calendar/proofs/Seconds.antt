@@ -104,6 +104,15 @@ plus_number a b n p early = p.number_moved ∙ rolled_before (number a + n) (ome
 pub next_rolls : (c : Clock) → exists c ≡ true → number c + 1 ≡ first_second 2100 → number (next c) ≡ first_second 2000
 next_rolls c stands last = (next_plus c stands).number_moved ∙ ap rolled last ∙ rolled_end
 
+-- No step leaves the clock as it is, and each step more is one second more.
+pub after_zero : (c : Clock) → after c 0 ≡ c
+unfolding after
+after_zero c = refl
+
+pub after_more : (c : Clock) (n : ℕ) → after c (n + 1) ≡ next (after c n)
+unfolding after
+after_more c n = ap (after c) (add-one n)
+
 -- n steps of one second give a date that exists, and the date plus n seconds.
 pub after_exists : (c : Clock) (n : ℕ) → exists c ≡ true → exists (after c n) ≡ true
 unfolding after

@@ -56,7 +56,7 @@ laid_on f (x ∷ xs) k t (suc i) h =
     let e : k + suc i ≡ (k + 1) + i = omega arith in
     rw e (laid_on f xs (k + 1) (rw sum_more (and_parts _ _ t).1) i (le_of_suc-le-suc h))
 
-laid_at : (f : ℕ → ℕ) (xs : List ℕ) → laid_from f 0 0 xs ≡ true → (i : ℕ) → i < length xs → get_or xs i 0 ≡ sum_below f i
+pub laid_at : (f : ℕ → ℕ) (xs : List ℕ) → laid_from f 0 0 xs ≡ true → (i : ℕ) → i < length xs → get_or xs i 0 ≡ sum_below f i
 laid_at f xs t i h =
     let e : 0 + i ≡ i = omega arith in
     rw e at (laid_on f xs 0 (rw sum_none t) i h)

@@ -152,6 +152,10 @@ register_steps a i l = by_section (section_of a)
     by_section None = omega arith
     by_section (Some s) = section_small s (a - first_of s + i)
 
+-- A write to the array stays inside it.
+pub array_steps : (a i : ℕ) → a < 512 → steps_on (span_of Array a) a i < 512
+array_steps a i l = omega arith
+
 -- The staged place of data byte i is its address modulo 64.
 pub staged_place : (area : Area) (a i j : ℕ) → a < room_of area → j < 64
     → eqb (place_at area a i) (place_of area (address_staged area a j)) ≡ eqb (steps_on (span_of area a) a i % 64) j

@@ -72,6 +72,10 @@ marks_where h e =
 pub marks_never : (h : History) → wires.supplied h ≡ false → is_mark (tick_at h) ≡ false
 marks_never h e = passed_over (wires.supplied h) (eqb ((divider h + 1) % 32768) 0 && not (rtcf h)) false e
 
+-- RTCF stays.
+rtcf_stays : (h : History) → rtcf (tick_entry h ∷ h) ≡ rtcf h
+rtcf_stays h = refl
+
 -- The clock bytes that a list of moments leaves waiting.
 abbrev left_waiting : List Moment → Option Clock
 left_waiting ms = latest (λ (m : Moment). clock_write m.entry.outcome) ms
