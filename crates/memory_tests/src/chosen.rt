@@ -6,7 +6,8 @@ use memory::Memory;
 
 /// Whether a memory is fit. Then it has one byte for each place, whichever memory it is.
 pub fn is_whole(memory: &dyn Memory) -> bool
-    ensures { result ≡ true → Whole (holds memory.now) }
+    ensures answer { result ≡ (holds memory.now).fit }
+    ensures whole { result ≡ true → Whole (holds memory.now) }
 {
     memory.is_fit()
 }
